@@ -1,0 +1,5 @@
+pub mod Pick
+pub mod Fold
+pub mod Low
+pub mod Lookup
+pub mod Over

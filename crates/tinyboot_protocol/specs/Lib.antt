@@ -1,0 +1,4 @@
+pub mod Crc
+pub mod CrcSteps
+pub mod Reading
+pub mod Stored
