@@ -1,0 +1,215 @@
+//! The scenario language: lines to steps.
+
+use tinyboot_ch32::hal::flash::{MAX_CAPACITY, PAGE_SIZE, RECORD};
+use tinyboot_core::traits::RunMode;
+use tinyboot_protocol::crc::{CRC_INIT, crc16};
+use tinyboot_protocol::{BaudRate, DEFAULT_PAYLOAD, compat_key, pack_version, unpack_version};
+
+/// Place of the data area in a frame, as the script language counts.
+const DATA: usize = 10;
+
+/// An `s` line.
+pub struct Setup {
+    pub erase: u32,
+    pub capacity: u32,
+    pub id_len: u8,
+    pub id: [u8; 16],
+    pub version: u16,
+    pub key: u32,
+}
+
+impl Setup {
+    /// The setup of `listen`, for lines before the first `s`.
+    fn listen() -> Self {
+        Setup {
+            erase: 64,
+            capacity: 16_384,
+            id_len: 0,
+            id: [0; 16],
+            version: 0,
+            key: 0xFFFF_FFFF,
+        }
+    }
+
+    fn of(b: &[u8; 31]) -> Self {
+        let long = |i: usize| u32::from_le_bytes([b[i], b[i + 1], b[i + 2], b[i + 3]]);
+        let mut id = [0; 16];
+        id.copy_from_slice(&b[9..25]);
+        Setup {
+            erase: long(0),
+            capacity: long(4),
+            id_len: b[8],
+            id,
+            version: u16::from_le_bytes([b[25], b[26]]),
+            key: long(27),
+        }
+    }
+}
+
+/// One dispatcher's bytes, with the texts to print between them.
+#[derive(Default)]
+pub struct Stream {
+    pub bytes: Vec<u8>,
+    pub texts: Vec<(usize, String)>,
+}
+
+pub enum Step {
+    Flash(usize, Vec<u8>),
+    Record(Vec<u8>),
+    Data(usize, Vec<u8>),
+    Start(RunMode),
+    Stream(Stream),
+    Text(String),
+}
+
+pub struct Scenario {
+    pub setup: Setup,
+    pub steps: Vec<Step>,
+}
+
+/// Reads a scenario. `first` is the number of its first line in the input.
+pub fn parse(text: &[u8], first: usize) -> Result<Scenario, String> {
+    let mut setup = Setup::listen();
+    let mut steps: Vec<Step> = Vec::new();
+    for (n, line) in text.split(|&c| c == b'\n').enumerate() {
+        let line = content(line);
+        if let Some((&letter, rest)) = line.split_first() {
+            take(letter, rest, &mut setup, &mut steps)
+                .map_err(|why| format!("line {}: {why}", first + n))?;
+        }
+    }
+    Ok(Scenario { setup, steps })
+}
+
+/// A line without its comment and the blanks around it.
+pub fn content(line: &[u8]) -> &[u8] {
+    let end = line.iter().position(|&c| c == b'#').unwrap_or(line.len());
+    line[..end].trim_ascii()
+}
+
+fn take(letter: u8, rest: &[u8], setup: &mut Setup, steps: &mut Vec<Step>) -> Result<(), String> {
+    let text = match letter {
+        b't' => Some(String::from_utf8_lossy(rest.trim_ascii()).into_owned()),
+        b'e' | b'k' | b'v' | b'u' | b'h' | b'g' => Some(value(letter, &pairs(rest)?)?),
+        _ => None,
+    };
+    if let Some(text) = text {
+        match steps.last_mut() {
+            // Between two pieces of one stream the text must not part them.
+            Some(Step::Stream(s)) => s.texts.push((s.bytes.len(), text)),
+            _ => steps.push(Step::Text(text)),
+        }
+        return Ok(());
+    }
+    let bytes = pairs(rest)?;
+    let in_stream = matches!(steps.last(), Some(Step::Stream(_)));
+    match letter {
+        b's' => {
+            let b = bytes.as_slice().try_into();
+            *setup = Setup::of(b.map_err(|_| "a setup has 31 bytes".to_string())?);
+            if setup.id_len > 16 {
+                return Err("an id has at most 16 bytes".into());
+            }
+            let page = PAGE_SIZE as u32;
+            if setup.capacity == 0
+                || setup.capacity > MAX_CAPACITY
+                || !setup.capacity.is_multiple_of(page)
+            {
+                return Err("a capacity is a multiple of 64, not 0, at most 65536".into());
+            }
+        }
+        b'f' | b'r' | b'q' if in_stream => {
+            // The Rust holds its record and frame while it reads a stream.
+            return Err("only before a stream".into());
+        }
+        b'f' => {
+            let (place, bytes) = bytes.split_at_checked(4).ok_or("too few bytes")?;
+            let at = u32::from_le_bytes([place[0], place[1], place[2], place[3]]) as usize;
+            if at + bytes.len() > setup.capacity as usize {
+                return Err("past the flash".into());
+            }
+            steps.push(Step::Flash(at, bytes.to_vec()));
+        }
+        b'r' => {
+            if bytes.is_empty() || bytes.len() > RECORD {
+                return Err("a record has 1 to 12 bytes".into());
+            }
+            steps.push(Step::Record(bytes));
+        }
+        b'q' => {
+            let (&place, bytes) = bytes.split_first().ok_or("too few bytes")?;
+            let at = (place as usize)
+                .checked_sub(DATA)
+                .ok_or("not in the data area")?;
+            if at + bytes.len() > DEFAULT_PAYLOAD {
+                return Err("not in the data area".into());
+            }
+            steps.push(Step::Data(at, bytes.to_vec()));
+        }
+        b'b' => steps.push(Step::Start(match bytes[..] {
+            [0] => RunMode::HandOff,
+            [1] => RunMode::Service,
+            _ => return Err("a mode is 00 or 01".into()),
+        })),
+        b'x' => match steps.last_mut() {
+            Some(Step::Stream(s)) => s.bytes.extend_from_slice(&bytes),
+            _ => steps.push(Step::Stream(Stream {
+                bytes,
+                texts: Vec::new(),
+            })),
+        },
+        _ => return Err("no such line".into()),
+    }
+    Ok(())
+}
+
+/// The Rust's small functions, asked directly.
+fn value(letter: u8, bytes: &[u8]) -> Result<String, String> {
+    Ok(match (letter, bytes) {
+        (b'e', _) => format!("crc {:04X}", crc16(CRC_INIT, bytes)),
+        (b'k', _) => {
+            let name = str::from_utf8(bytes).map_err(|_| "a name is UTF-8".to_string())?;
+            format!("key {:08X}", compat_key(name))
+        }
+        (b'v', &[major, minor, patch]) => format!("version {}", pack_version(major, minor, patch)),
+        (b'u', &[low, high]) => {
+            let (major, minor, patch) = unpack_version(u16::from_le_bytes([low, high]));
+            format!("parts {major} {minor} {patch}")
+        }
+        (b'h', &[index]) => match BaudRate::from_u8(index) {
+            Some(rate) => format!("rate {}", rate.hz()),
+            None => "rate none".into(),
+        },
+        (b'g', &[a, b, c, d]) => match BaudRate::from_hz(u32::from_le_bytes([a, b, c, d])) {
+            Some(rate) => format!("index {}", rate as u8),
+            None => "index none".into(),
+        },
+        _ => return Err("too few or too many bytes".into()),
+    })
+}
+
+/// Hexadecimal pairs, blanks free.
+fn pairs(text: &[u8]) -> Result<Vec<u8>, String> {
+    let mut bytes = Vec::with_capacity(text.len() / 2);
+    let mut high = None;
+    for &c in text {
+        let digit = match c {
+            b' ' | b'\t' => continue,
+            b'0'..=b'9' => c - b'0',
+            b'a'..=b'f' => c - b'a' + 10,
+            b'A'..=b'F' => c - b'A' + 10,
+            _ => return Err("not a hexadecimal digit".into()),
+        };
+        high = match high {
+            None => Some(digit),
+            Some(h) => {
+                bytes.push(h << 4 | digit);
+                None
+            }
+        };
+    }
+    match high {
+        None => Ok(bytes),
+        Some(_) => Err("an odd number of digits".into()),
+    }
+}

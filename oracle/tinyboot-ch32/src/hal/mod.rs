@@ -1,0 +1,3 @@
+//! In place of the chip's registers.
+
+pub mod flash;
