@@ -1,6 +1,9 @@
+pub mod Bit
 pub mod Bools
 pub mod Folds
+pub mod Inverse
 pub mod Lists
+pub mod Loops
 pub mod Low
 pub mod Product
 pub mod Upto

@@ -1,4 +1,6 @@
 pub mod Serial
+pub mod Bytes
+pub mod Apart
 pub mod Cut
 pub mod Reading
 pub mod Storing
@@ -7,3 +9,6 @@ pub mod Start
 pub mod Loop
 pub mod Anywhere
 pub mod Vectors
+pub mod Keys
+pub mod Rates
+pub mod Versions

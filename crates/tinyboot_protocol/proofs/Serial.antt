@@ -1,8 +1,9 @@
 -- A byte that enters at the register's high end, with eight steps after it, is the textbook's eight bits one by one.
 use mathlib.Core.Path.{_≡_, refl, sym, ap, ap₂, _∙_}
 use mathlib.Core.List.{List, [], _∷_, _++_, append-assoc}
-use Prim.Native.Nat.{ℕ, zero, suc, _+_, _*_, _/_, _%_, _<_}
-use native.Mathlib.Nat.{add-zero}
+use Prim.Native.Nat.{ℕ, zero, suc, _+_, _*_, _/_, _%_, _<_, suc-le-suc}
+use native.Mathlib.Nat.{add-zero, zero-lt-suc}
+use lib.ListN.{length, getD}
 use native.Mathlib.Omega.{arith}
 use borrow.Author.Tests.{le-leb, lt-leb}
 use lib.Dec.{lit<}
@@ -12,7 +13,7 @@ use Rattle.laws.proofs.Folds.{parts}
 use Rattle.laws.proofs.Upto.{every, every-list}
 use Rattle.laws.proofs.Xor.{digit, xor-assoc, xor-four}
 use Rattle.tinyboot_protocol.specs.Crc.{entered, bits, bitsOf, crcFrom}
-use Rattle.tinyboot_protocol.specs.CrcSteps.{shift1, shifts, crcByte}
+use Rattle.tinyboot_protocol.specs.CrcSteps.{shift1, shifts, crcByte, crcBytes}
 
 -- one formula for a step's two cases
 flat : ℕ → ℕ
@@ -121,14 +122,23 @@ unfolding shifts
 shifts-lt zero a h = h
 shifts-lt (suc n) a h = shifts-lt n (shift1 a) (step-lt a h)
 
-pub byte-lt : (c b : ℕ) → c < 65536 → b < 256 → crcByte c b < 65536
+byte-lt : (c b : ℕ) → c < 65536 → b < 256 → crcByte c b < 65536
 unfolding crcByte
 byte-lt c b hc hb = shifts-lt 8 (bitXor c (b * 256)) (xor-lt 16 c (b * 256) hc (omega arith))
 
 -- one byte more
-pub crc-cons : (c b : ℕ) (l : List ℕ) → c < 65536 → b < 256 → crcFrom c (b ∷ l) ≡ crcFrom (crcByte c b) l
+crc-cons : (c b : ℕ) (l : List ℕ) → c < 65536 → b < 256 → crcFrom c (b ∷ l) ≡ crcFrom (crcByte c b) l
 unfolding crcFrom bitsOf
-crc-cons c b l hc hb = parts entered c (bits 8 b) (bitsOf l) ∙ ap (λ (x : ℕ). fold entered x (bitsOf l)) (sym (byte-bits c b hc hb))
+crc-cons c b l hc hb =
+    parts entered c (bits 8 b) (bitsOf l) ∙ ap (λ (x : ℕ). fold entered x (bitsOf l)) (sym (byte-bits c b hc hb))
+
+-- a whole message: the working form is the textbook's
+pub serial : (c : ℕ) (l : List ℕ) → c < 65536 → ((i : ℕ) → i < length l → getD l i 0 < 256) → crcBytes c l ≡ crcFrom c l
+unfolding crcFrom bitsOf fold
+serial c [] hc h = refl
+serial c (b ∷ l) hc h =
+    let hb : b < 256 = h 0 (zero-lt-suc (length l)) in
+    serial (crcByte c b) l (byte-lt c b hc hb) (λ i k. h (suc i) (suc-le-suc k)) ∙ sym (crc-cons c b l hc hb)
 
 -- a message may be taken up in parts
 pub crc-parts : (c : ℕ) (l m : List ℕ) → crcFrom c (l ++ m) ≡ crcFrom (crcFrom c l) m

@@ -13,7 +13,7 @@ use Rattle.tinyboot_protocol.specs.declared.frame.Kind.the-variants.{Uns
 use Rattle.tinyboot_protocol.specs.declared.frame.End.{End}
 use Rattle.tinyboot_protocol.specs.declared.frame.End.the-variants.{Going, Over}
 
--- a frame's fields by their offsets, of its bytes from its AA on: '2: command. 3: status. .. 8, 9: length, low first'
+-- a frame's fields by their offsets, of its bytes from its AA on (01, Frame bytes)
 abbrev pub cmdOf : List ℕ → ℕ
 cmdOf f = getD f 2 0
 
@@ -28,24 +28,24 @@ pub data Hunt : Type 0 where
   Open : Bool → Hunt
   Sync : List ℕ → Hunt
 
--- 'compares each byte with the one before, so AA AA 55 starts a frame'
+-- each byte is looked at together with the one before it (01, Frame bytes, hunting)
 unfoldable pub hunt : Bool → List ℕ → Hunt
 hunt p [] = Open p
 hunt true (b ∷ l) = pick (eqb b 0x55) (Sync l) (hunt (eqb b 0xAA) l)
 hunt false (b ∷ l) = hunt (eqb b 0xAA) l
 
--- whether a frame of this status is overheard: 'overheard if the status is not Request'
+-- whether a frame of this status is overheard: a device takes what is no request for another's reply (01, Frame bytes, steps 2 and 3)
 unfoldable pub overhears : Bool → ℕ → Bool
 overhears device status = pick device (not (eqb status 0)) false
 
--- steps 1 and 2, of a header: ten bytes or more
+-- what a header says, of ten bytes or more (01, Frame bytes, steps 1 and 2)
 unfoldable pub verdictOf : ℕ → Bool → List ℕ → End
 verdictOf cap device f =
     pick (ltb 5 (cmdOf f) || ltb 7 (statusOf f)) (Over Unsupported)
     (pick (ltb cap (lenOf f)) (Over (pick (overhears device (statusOf f)) Overheard PayloadOverflow))
     Going)
 
--- steps 3 and 4, of a whole frame: the CRC is that 'of everything before it, low byte first'
+-- what a whole frame says; its CRC covers all that stands before it (01, Frame bytes, steps 3 and 4)
 unfoldable pub checked : Bool → List ℕ → Kind
 checked device f =
     pick (overhears device (statusOf f)) Overheard
@@ -64,14 +64,14 @@ pub data Outcome : Type 0 where
   Begun : List ℕ → Outcome
   Ended : Kind → List ℕ → List ℕ → Outcome
 
--- a header's verdict carried out: 'frame ends here', or 'data and CRC are read'
+-- a header's verdict carried out: the frame ends with it, or goes on for its data and CRC (01, Frame bytes, steps 1 to 3)
 abbrev pub judged : Bool → End → List ℕ → Outcome
 judged device (Over k) f = Ended k (take 10 f) (drop 10 f)
 judged device Going f =
     pick (ltb (length f) (12 + lenOf f)) (Begun f)
     (Ended (checked device f) (take (12 + lenOf f) f) (drop (12 + lenOf f) f))
 
--- what the bytes from an AA 55 on say: 'then 8 header bytes, and in this order'
+-- what the bytes from an AA 55 on say: nothing yet short of a header, AA 55 and eight bytes (01, Frame bytes)
 unfoldable pub started : ℕ → Bool → List ℕ → Outcome
 started cap device f = pick (ltb (length f) 10) (Begun f) (judged device (verdictOf cap device f) f)
 
@@ -79,6 +79,6 @@ abbrev pub fromHunt : ℕ → Bool → Hunt → Outcome
 fromHunt cap device (Open p) = Begun (pick p (0xAA ∷ []) [])
 fromHunt cap device (Sync m) = started cap device (0xAA ∷ 0x55 ∷ m)
 
--- the stream's first frame; hunting 'begins afresh after each ended frame', so the next one is read from the bytes after it alone
+-- the stream's first frame. The next one is read in the same way from the bytes that follow it, and from nothing before them (01, Frame bytes, hunting)
 abbrev pub readFrame : ℕ → Bool → List ℕ → Outcome
 readFrame cap device l = fromHunt cap device (hunt false l)

@@ -14,7 +14,7 @@ use Rattle.tinyboot_protocol.specs.declared.frame.End.the-variants.{Goin
 use Rattle.tinyboot_protocol.specs.declared.frame.Stop.{Stop}
 use Rattle.tinyboot_protocol.specs.Reading.{lenOf, verdictOf, kindStatus, Outcome, Begun, Ended, readFrame}
 
--- a frame with nothing in it: AA 55, and zero elsewhere ('in a new state it is zero')
+-- a frame with nothing in it: AA 55, and zero elsewhere (01, Frame bytes, the data area of a new state)
 abbrev pub newFrame : ℕ → List ℕ
 newFrame cap = 0xAA ∷ 0x55 ∷ replicate {A = ℕ} (10 + cap) 0
 
@@ -24,8 +24,8 @@ begun cap f g =
     pick (leb g (10 + lenOf f)) (take g f)
     (take (10 + lenOf f) f ++ (getD f (10 + cap) 0 ∷ []))
 
--- the frame once the bytes q have come: header and data laid over what stood there, the CRC apart ('a received CRC is kept apart and never enters' the
--- data area); what has not come stays as it was
+-- the frame once the bytes q have come: header and data laid over what stood there, the CRC apart; what has not come stays as it was (01, Frame bytes,
+-- the data area)
 unfoldable pub store : ℕ → List ℕ → List ℕ → List ℕ
 store cap f q =
     over (take (10 + lenOf q) q) (take (10 + cap) f) ++
@@ -40,7 +40,7 @@ pub record Said : Type 0 where
   pub number : ℕ
   pub status : ℕ
 
--- 0, 'all taken, no frame ended'; 1, 'a frame ended'; 11, 'not well formed'
+-- 01, What a call says: 0 where no frame has ended, 1 where one has (the reader replies to none), 11 for a frame that is no true beginning
 abbrev pub quiet : Said
 quiet = record { number = 0; status = 0 }
 
@@ -79,7 +79,8 @@ abbrev pub goes : End → Bool
 goes Going = true
 goes (Over k) = false
 
--- 'a frame begun is a true beginning by the steps above (AA 55, a header that passed once read, the place inside the frame)'
+-- a true beginning of a frame: the sync word as far as it has come, a header that passed once it has come, and a place inside the frame (01, What a call
+-- says, well formed)
 unfoldable pub wellOf : ℕ → Bool → List ℕ → ℕ → Bool
 wellOf cap device f g =
     (leb g 0 || eqb (getD f 0 0) 0xAA) &&

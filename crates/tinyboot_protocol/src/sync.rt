@@ -20,6 +20,10 @@ pub(crate) fn hunted(got: usize, b: u8) -> usize
         if b == Sync::VALID.1 {
             return 2;
         }
+        if b == Sync::VALID.0 {
+            return 1;
+        }
+        return 0;
     }
     if b == Sync::VALID.0 {
         return 1;

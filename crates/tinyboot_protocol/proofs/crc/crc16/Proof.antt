@@ -1,20 +1,16 @@
-use mathlib.Core.Path.{_≡_, sym, _∙_}
-use Prim.Native.Nat.{ℕ, suc, _+_, _≤_, _<_, _-_}
-use native.Mathlib.Numerals.{add-one}
+use mathlib.Core.Path.{_≡_, _∙_}
+use Prim.Native.Nat.{_≤_, _<_, _-_}
 use native.Mathlib.Omega.{arith}
-use mathlib.Core.List.{List}
-use lib.ListN.{length, drop, getD, drop-of-length-le}
-use lib.Seq.{drop-cons}
+use lib.ListN.{length, drop, getD}
 use borrow.Author.Needs.{needs}
-use Rattle.tinyboot_protocol.specs.Crc.{bitsOf, crcFrom}
-use Rattle.laws.specs.Fold.{fold}
-use Rattle.tinyboot_protocol.specs.CrcSteps.{crcByte}
-use Rattle.tinyboot_protocol.proofs.Serial.{byte-lt, crc-cons}
+use Rattle.laws.proofs.Loops.{turned, ended}
+use Rattle.tinyboot_protocol.specs.CrcSteps.{crcByte, crcBytes}
+use Rattle.tinyboot_protocol.proofs.Serial.{serial}
 use Rattle.tinyboot_protocol.proofs.crc.crc16.Statement.{statement}
 use Rattle.tinyboot_protocol.proofs.crc.crc16.Tie as tie
 
 abbrev Inv-loop : tie.InvT-loop
-Inv-loop crc bytes c₀ i₀ c i = (i ≤ length bytes) × (c < 65536) × (crcFrom c (drop i bytes) ≡ crcFrom crc bytes)
+Inv-loop crc bytes c₀ i₀ c i = (i ≤ length bytes) × (crcBytes c (drop i bytes) ≡ crcBytes crc bytes)
 
 abbrev μ-loop : tie.MeasureT-loop
 μ-loop crc bytes c₀ i₀ c i = length bytes - i
@@ -34,22 +30,19 @@ add-i c = omega arith
 loop-less : tie.Need-loop-less Inv-loop μ-loop
 loop-less c = omega arith
 
-more : (xs : List ℕ) (c i : ℕ) → i < length xs → c < 65536 → getD xs i 0 < 256 → crcFrom (crcByte c (getD xs i 0)) (drop (i + 1) xs) ≡ crcFrom c (drop i xs)
-more xs c i h hc hb = rw (add-one, drop-cons xs i 0) (sym (crc-cons c (getD xs i 0) (drop (suc i) xs) hc hb))
-
 loop-again : tie.Need-loop-again Inv-loop μ-loop
-loop-again c =
-    let v = c .before .before .before .loop in
-    let a = c .before .before .before .before .before .args in
-    let b : getD (a .bytes .now) (v .i) 0 < 256 = omega (arith, c .before .shared-slice-known2 .given (v .i)) in (
-      omega arith,
-      rw (c .byte .ensures) (byte-lt (v .c) (getD (a .bytes .now) (v .i) 0) (v .inv .1) b),
-      cc (more (a .bytes .now) (v .c) (v .i) (c .before .before .loop-test .taken) (v .inv .1) b),
-    )
+loop-again c = (
+  omega arith,
+  turned crcByte _ _ _ _ (c .before .before .before .loop .inv .1) _ (c .before .before .loop-test .taken) (c .byte .ensures),
+)
 
 returns : tie.Need-returns Inv-loop μ-loop
-unfolding crcFrom bitsOf fold
-returns c = rw (drop-of-length-le _ (c .loop-test .left)) at (c .before .loop .inv .2)
+returns c =
+    let a = c .before .before .before .args in
+    let h = c .before .before .before .fits .crc in
+    let s = c .before .before .shared-slice-known .given in
+    ended crcByte _ _ _ _ (c .before .loop .inv .1) (c .loop-test .left) ∙
+    serial (a .crc) (a .bytes .now) (omega arith) (λ i k. omega (arith, s i))
 
 pub crc16-spec : {M : Type 1} → statement M
 crc16-spec =

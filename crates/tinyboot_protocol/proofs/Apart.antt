@@ -1,0 +1,152 @@
+-- No two names have one number, so that a contract that gives the number allows one result.
+use mathlib.Core.Path.{_≡_, refl, ap}
+use mathlib.Core.List.{[], _∷_}
+use Prim.Native.Nat.{ℕ}
+use lib.ListN.{getD}
+use Rattle.laws.specs.Lookup.{Lookup, none, some}
+use Rattle.laws.proofs.Inverse.{apart}
+use Rattle.tinyboot_protocol.specs.Names.{cmdNumber, cmdFoundOf, statusNumber, statusFoundOf, modeNumber}
+use Rattle.tinyboot_protocol.specs.Baud.{baudIndex, baudFoundOf}
+use Rattle.tinyboot_protocol.proofs.Rates.{entry}
+use Rattle.tinyboot_protocol.specs.declared.Cmd.{Cmd}
+use Rattle.tinyboot_protocol.specs.declared.Cmd.the-variants.{Info, Erase, Write, Verify, Reset, Select}
+use Rattle.tinyboot_protocol.specs.declared.CmdFound.{CmdFound}
+use Rattle.tinyboot_protocol.specs.declared.CmdFound.the-variants.{Known as KnownCmd, Unknown as UnknownCmd}
+use Rattle.tinyboot_protocol.specs.declared.Status.{Status}
+use Rattle.tinyboot_protocol.specs.declared.Status.the-variants.{
+  Request,
+  Ok,
+  WriteError,
+  CrcMismatch,
+  AddrOutOfBounds,
+  Unsupported,
+  PayloadOverflow,
+  Incompatible,
+}
+use Rattle.tinyboot_protocol.specs.declared.StatusFound.{StatusFound}
+use Rattle.tinyboot_protocol.specs.declared.StatusFound.the-variants.{Known as KnownStatus, Unknown as UnknownStatus}
+use Rattle.tinyboot_protocol.specs.declared.RunMode.{RunMode}
+use Rattle.tinyboot_protocol.specs.declared.RunMode.the-variants.{HandOff, Service}
+use Rattle.tinyboot_protocol.specs.declared.BaudRate.{BaudRate}
+use Rattle.tinyboot_protocol.specs.declared.BaudRate.the-variants.{
+  B9600,
+  B19200,
+  B38400,
+  B57600,
+  B115200,
+  B230400,
+  B460800,
+  B500000,
+  B921600,
+  B1000000,
+  B1500000,
+  B2000000,
+  B2500000,
+  B3000000,
+}
+use Rattle.tinyboot_protocol.specs.declared.BaudFound.{BaudFound}
+use Rattle.tinyboot_protocol.specs.declared.BaudFound.the-variants.{Rate, NoRate}
+
+abbrev cmdFrom : ℕ → Cmd
+cmdFrom n = getD (Info ∷ Erase ∷ Write ∷ Verify ∷ Reset ∷ Select ∷ []) n Info
+
+cmd-back : (c : Cmd) → cmdFrom (cmdNumber c) ≡ c
+cmd-back Info = refl
+cmd-back Erase = refl
+cmd-back Write = refl
+cmd-back Verify = refl
+cmd-back Reset = refl
+cmd-back Select = refl
+
+pub cmd-apart : (a b : Cmd) → cmdNumber a ≡ cmdNumber b → a ≡ b
+cmd-apart = apart cmdNumber cmdFrom cmd-back
+
+abbrev cmdFound : Lookup → CmdFound
+cmdFound (some n) = KnownCmd (cmdFrom n)
+cmdFound none = UnknownCmd
+
+cmd-found-back : (f : CmdFound) → cmdFound (cmdFoundOf f) ≡ f
+cmd-found-back (KnownCmd c) = ap KnownCmd (cmd-back c)
+cmd-found-back UnknownCmd = refl
+
+pub cmd-found-apart : (a b : CmdFound) → cmdFoundOf a ≡ cmdFoundOf b → a ≡ b
+cmd-found-apart = apart cmdFoundOf cmdFound cmd-found-back
+
+abbrev statusFrom : ℕ → Status
+statusFrom n =
+    getD
+    (Request
+    ∷ Ok
+    ∷ WriteError
+    ∷ CrcMismatch
+    ∷ AddrOutOfBounds
+    ∷ Unsupported
+    ∷ PayloadOverflow
+    ∷ Incompatible
+    ∷ [])
+    n
+    Request
+
+status-back : (s : Status) → statusFrom (statusNumber s) ≡ s
+status-back Request = refl
+status-back Ok = refl
+status-back WriteError = refl
+status-back CrcMismatch = refl
+status-back AddrOutOfBounds = refl
+status-back Unsupported = refl
+status-back PayloadOverflow = refl
+status-back Incompatible = refl
+
+pub status-apart : (a b : Status) → statusNumber a ≡ statusNumber b → a ≡ b
+status-apart = apart statusNumber statusFrom status-back
+
+abbrev statusFound : Lookup → StatusFound
+statusFound (some n) = KnownStatus (statusFrom n)
+statusFound none = UnknownStatus
+
+status-found-back : (f : StatusFound) → statusFound (statusFoundOf f) ≡ f
+status-found-back (KnownStatus s) = ap KnownStatus (status-back s)
+status-found-back UnknownStatus = refl
+
+pub status-found-apart : (a b : StatusFound) → statusFoundOf a ≡ statusFoundOf b → a ≡ b
+status-found-apart = apart statusFoundOf statusFound status-found-back
+
+abbrev modeFrom : ℕ → RunMode
+modeFrom n = getD (HandOff ∷ Service ∷ []) n HandOff
+
+mode-back : (m : RunMode) → modeFrom (modeNumber m) ≡ m
+mode-back HandOff = refl
+mode-back Service = refl
+
+pub mode-apart : (a b : RunMode) → modeNumber a ≡ modeNumber b → a ≡ b
+mode-apart = apart modeNumber modeFrom mode-back
+
+rate-back : (r : BaudRate) → entry (baudIndex r) ≡ r
+rate-back B9600 = refl
+rate-back B19200 = refl
+rate-back B38400 = refl
+rate-back B57600 = refl
+rate-back B115200 = refl
+rate-back B230400 = refl
+rate-back B460800 = refl
+rate-back B500000 = refl
+rate-back B921600 = refl
+rate-back B1000000 = refl
+rate-back B1500000 = refl
+rate-back B2000000 = refl
+rate-back B2500000 = refl
+rate-back B3000000 = refl
+
+pub rate-apart : (a b : BaudRate) → baudIndex a ≡ baudIndex b → a ≡ b
+rate-apart = apart baudIndex entry rate-back
+
+abbrev rateFound : Lookup → BaudFound
+rateFound (some n) = Rate (entry n)
+rateFound none = NoRate
+
+rate-found-back : (f : BaudFound) → rateFound (baudFoundOf f) ≡ f
+rate-found-back (Rate r) = ap Rate (rate-back r)
+rate-found-back NoRate = refl
+
+pub rate-found-apart : (a b : BaudFound) → baudFoundOf a ≡ baudFoundOf b → a ≡ b
+rate-found-apart = apart baudFoundOf rateFound rate-found-back
