@@ -8,6 +8,7 @@ pub mod Steps
 pub mod Start
 pub mod Loop
 pub mod Anywhere
+pub mod Sealing
 pub mod Vectors
 pub mod Keys
 pub mod Rates

@@ -1,7 +1,9 @@
--- Cases of the rules, computed: read into a new frame, how many bytes are taken, and what the call says.
+-- Cases of the rules, computed: read into a new frame, how many bytes are taken, and what the call says. They are rows 1 to 3 of 01's bench sheet and its
+-- frame steps; each device row was put to the Rust too, and the desk's rows have the CRC that the Rust's crc16 gives.
 use Prim.Native.Nat.{ℕ}
 use mathlib.Core.Path.{_≡_, refl}
-use mathlib.Core.List.{List, [], _∷_}
+use mathlib.Core.List.{List, [], _∷_, _++_}
+use lib.ListN.{replicate}
 use mathlib.Core.Bool.{Bool, true, false}
 use Rattle.laws.specs.Fold.{fold}
 use Rattle.tinyboot_protocol.specs.Crc.{entered, bits, bitsOf, crcFrom}
@@ -32,9 +34,10 @@ cases =
     record { device = true; bytes = 0xaa ∷ 0x55 ∷ 2 ∷ 1 ∷ 0 ∷ 0 ∷ 0 ∷ 0 ∷ 0x35 ∷ 0 ∷ []; taken = 10; said = ended 0 } ∷
     record { device = false; bytes = 0xaa ∷ 0x55 ∷ 2 ∷ 1 ∷ 0 ∷ 0 ∷ 0 ∷ 0 ∷ 0x35 ∷ 0 ∷ []; taken = 10; said = ended 6 } ∷
     record { device = true; bytes = 0xaa ∷ 0x55 ∷ 6 ∷ 1 ∷ 0 ∷ 0 ∷ 0 ∷ 0 ∷ 0 ∷ 0 ∷ []; taken = 10; said = ended 5 } ∷
+    record { device = true; bytes = 0xaa ∷ 0x55 ∷ 2 ∷ 0 ∷ 0x40 ∷ 0 ∷ 0 ∷ 0 ∷ 0x34 ∷ 0 ∷ (replicate {A = ℕ} 52 0 ++ (0xbf ∷ 0xc6 ∷ [])); taken = 64; said = ended 1 } ∷
     record { device = true; bytes = 0xaa ∷ []; taken = 1; said = quiet } ∷
     []
 
 all-held : held cases
 unfolding readOf wellOf begun store hunt started verdictOf overhears checked crcFrom bitsOf bits entered fold
-all-held = ((refl, refl), ((refl, refl), ((refl, refl), ((refl, refl), ((refl, refl), ((refl, refl), ((refl, refl), ((refl, refl), ((refl, refl), ((refl, refl), tt))))))))))
+all-held = ((refl, refl), ((refl, refl), ((refl, refl), ((refl, refl), ((refl, refl), ((refl, refl), ((refl, refl), ((refl, refl), ((refl, refl), ((refl, refl), ((refl, refl), tt)))))))))))

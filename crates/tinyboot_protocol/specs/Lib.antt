@@ -3,6 +3,7 @@ pub mod CrcSteps
 pub mod Names
 pub mod Reading
 pub mod Stored
+pub mod Sent
 pub mod Flags
 pub mod Info
 pub mod Key

@@ -4,7 +4,6 @@ use mathlib.Core.List.{_++_, _∷_, []}
 use borrow.Author.Tests.{eq-eqb, ne-eqb}
 use lib.Dec.{eqb}
 use lib.ListN.{length, take, getD}
-use lib.Seq.{length-take-le}
 use Rattle.laws.specs.Pick.{pick}
 use Rattle.laws.specs.Low.{lowFirst}
 use Rattle.tinyboot_protocol.specs.declared.frame.Kind.{Kind}
@@ -37,18 +36,11 @@ told c =
 returns : tie.Need-returns
 returns c = sym (told (c .before) ∙ rw (c .if1 .taken) refl)
 
-add-m : tie.Need-add-m
-add-m c = search needs
+add-body-crc : tie.Need-add-body-crc
+add-body-crc c = search needs
 
-slice-aggregate-crc16 : tie.Need-slice-aggregate-crc16
-slice-aggregate-crc16 c =
-    let a = c .before .before .before .before .before .args in
-    let l : length (a .f .now) ≡ 64 = c .before .before .before .before .before .pre .0 in
-    let s : a .n ≤ 52 = c .before .before .before .before .before .pre .1 in
-    sym (length-take-le (10 + a .n) (a .f .now) (omega arith))
-
-crc16-requires : tie.Need-crc16-requires
-crc16-requires c κs = search needs
+body-crc-requires : tie.Need-body-crc-requires
+body-crc-requires c κs = search needs
 
 shared-slice-read-read16 : tie.Need-shared-slice-read-read16
 shared-slice-read-read16 c = search needs
@@ -57,12 +49,12 @@ read16-requires : tie.Need-read16-requires
 read16-requires c κs = search needs
 
 returns-2 : tie.Need-returns-2
-returns-2 c = sym (told (c .before .before .before .before .before .before) ∙ rw (c .before .before .before .before .before .if1 .left)
-    (simp (eq-eqb _ _ (sym (c .before .before .before .crc16 .ensures) ∙ c .if2 .taken ∙ c .before .read16 .ensures))))
+returns-2 c = sym (told (c .before .before .before .before .before) ∙ rw (c .before .before .before .before .if1 .left)
+    (simp (eq-eqb _ _ (sym (c .before .before .before .body-crc .ensures) ∙ c .if2 .taken ∙ c .before .read16 .ensures))))
 
 returns-3 : tie.Need-returns-3
-returns-3 c = sym (told (c .before .before .before .before .before .before) ∙ rw (c .before .before .before .before .before .if1 .left)
-    (simp (ne-eqb _ _ (λ w. c .if2 .left (c .before .before .before .crc16 .ensures ∙ w ∙ sym (c .before .read16 .ensures))))))
+returns-3 c = sym (told (c .before .before .before .before .before) ∙ rw (c .before .before .before .before .if1 .left)
+    (simp (ne-eqb _ _ (λ w. c .if2 .left (c .before .before .before .body-crc .ensures ∙ w ∙ sym (c .before .read16 .ensures))))))
 
 pub finish-spec : {M : Type 1} → statement M
 finish-spec =
@@ -71,9 +63,8 @@ finish-spec =
     shared-slice-read-heard
     heard-requires
     returns
-    add-m
-    slice-aggregate-crc16
-    crc16-requires
+    add-body-crc
+    body-crc-requires
     shared-slice-read-read16
     read16-requires
     returns-2

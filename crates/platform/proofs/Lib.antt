@@ -1,0 +1,5 @@
+pub mod States
+pub mod Flash
+pub mod Answers
+pub mod Record
+pub mod Bytes

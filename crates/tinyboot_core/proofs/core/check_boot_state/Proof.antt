@@ -1,0 +1,67 @@
+use Rattle.tinyboot_core.proofs.Starting.{start-asked, start-stays, start-judged}
+use native.Mathlib.Omega.{arith}
+use borrow.Author.Needs.{needs}
+use Rattle.tinyboot_core.proofs.core.check_boot_state.Statement.{statement}
+use Rattle.tinyboot_core.proofs.core.check_boot_state.Tie as tie
+
+enum-told : tie.Need-enum-told
+enum-told c = search needs
+
+returns : tie.Need-returns
+returns c =
+    let a = c .before .before .before .before .args in
+    rw (c .enum-told .given .1) (start-asked (a .capacity) (a .flash .now) (a .meta .now))
+
+enum-told-2 : tie.Need-enum-told-2
+enum-told-2 c = search needs
+
+cleared-requires : tie.Need-cleared-requires
+cleared-requires c κs = search needs
+
+validate-app-requires : tie.Need-validate-app-requires
+validate-app-requires c κs = search needs
+
+same-length : tie.Need-same-length
+same-length c = search needs
+
+returns-2 : tie.Need-returns-2
+returns-2 c =
+    let a = c .before .before .before .before .before .before .before .before .before .before .before .before .args in
+    let l = c .before .before .before .before .before .before .cleared in
+    rw (c .before .before .before .before .before .before .before .before .enum-told2 .given .1)
+    (rw (c .if2 .taken) at (start-judged (a .capacity) (a .flash .now) (a .meta .now) (l .result) (l .last .0) (l .ensures) (c .before .before .before .if1 .taken) (c .before .validate-app .result) (c .before .validate-app .ensures)))
+
+same-length-2 : tie.Need-same-length-2
+same-length-2 c = search needs
+
+returns-3 : tie.Need-returns-3
+returns-3 c =
+    let a = c .before .before .before .before .before .before .before .before .before .before .before .before .args in
+    let l = c .before .before .before .before .before .before .cleared in
+    rw (c .before .before .before .before .before .before .before .before .enum-told2 .given .1)
+    (rw (c .if2 .left) at (start-judged (a .capacity) (a .flash .now) (a .meta .now) (l .result) (l .last .0) (l .ensures) (c .before .before .before .if1 .taken) (c .before .validate-app .result) (c .before .validate-app .ensures)))
+
+same-length-3 : tie.Need-same-length-3
+same-length-3 c = search needs
+
+returns-4 : tie.Need-returns-4
+returns-4 c =
+    let a = c .before .before .before .before .before .before .before .before .before .args in
+    let l = c .before .before .before .cleared in
+    rw (c .before .before .before .before .before .enum-told2 .given .1) (start-stays (a .capacity) (a .flash .now) (a .meta .now) (l .result) (l .last .0) (l .ensures) (c .if1 .left))
+
+pub check-boot-state-spec : {M : Type 1} → statement M
+check-boot-state-spec =
+    tie.close
+    (tie.spec
+    enum-told
+    returns
+    enum-told-2
+    cleared-requires
+    validate-app-requires
+    same-length
+    returns-2
+    same-length-2
+    returns-3
+    same-length-3
+    returns-4)

@@ -1,0 +1,42 @@
+use Rattle.tinyboot_core.proofs.Starting.{tried-none, tried-one}
+use native.Mathlib.Omega.{arith}
+use borrow.Author.Needs.{needs}
+use Rattle.tinyboot_core.proofs.core.use_trial.Statement.{statement}
+use Rattle.tinyboot_core.proofs.core.use_trial.Tie as tie
+
+has-trials-requires : tie.Need-has-trials-requires
+has-trials-requires c κs = search needs
+
+consume-trial-requires : tie.Need-consume-trial-requires
+consume-trial-requires c κs = search needs
+
+done-requires : tie.Need-done-requires
+done-requires c κs = search needs
+
+same-length : tie.Need-same-length
+same-length c = search needs
+
+returns : tie.Need-returns
+returns c =
+    let a = c .before .before .before .before .before .before .before .before .before .args in
+    let t = c .before .before .before .consume-trial in
+    rw (t .ensures .1)
+    (tried-one (a .meta .now) _ (c .before .before .before .before .before .if1 .taken) (c .before .before .before .before .before .before .has-trials .ensures) _ _ (c .done .ensures) (t .ensures .0))
+
+same-length-2 : tie.Need-same-length-2
+same-length-2 c = search needs
+
+returns-2 : tie.Need-returns-2
+returns-2 c = tried-none (c .before .before .before .before .args .meta .now) _ (c .if1 .left) (c .before .has-trials .ensures)
+
+pub use-trial-spec : {M : Type 1} → statement M
+use-trial-spec =
+    tie.close
+    (tie.spec
+    has-trials-requires
+    consume-trial-requires
+    done-requires
+    same-length
+    returns
+    same-length-2
+    returns-2)

@@ -1,0 +1,86 @@
+// Translated from tinyboot, lib/core/src/core.rs (MIT OR Apache-2.0); changed: the decision alone, over a lent flash and record.
+
+use platform::boot_meta_store;
+use platform::boot_meta_store::Step;
+use platform::traits;
+use platform::traits::BootState;
+use tinyboot_protocol::RunMode;
+use tinyboot_protocol::crc;
+ghost use mathlib.Core.Path.{_≡_};
+ghost use lib.Dec.{eqb};
+ghost use lib.ListN.{take};
+ghost use Rattle.platform.specs.Record.{stepNumber};
+ghost use Rattle.tinyboot_core.specs.Start.{validOf, triedOf, clearedOf, clears, startOf, decided};
+ghost use Rattle.tinyboot_protocol.specs.Names.{modeNumber};
+
+// The first n bytes, or all of them where there are fewer.
+fn first<'a>(flash: &'a [u8], n: usize) -> &'a [u8]
+    ensures { λ r. ⌜ now r ≡ take n (now (flash .entry)) ⌝ }
+{
+    if n <= flash.len() {
+        return &flash[..n];
+    }
+    flash
+}
+
+// Whether the image may run. The CRC covers the stored size only, not the whole flash.
+fn validate_app(capacity: usize, flash: &[u8], meta: &[u8]) -> bool
+    ensures { λ r. ⌜ r ≡ validOf capacity (now (flash .entry)) (now (meta .entry)) ⌝ }
+{
+    let stored = boot_meta_store::app_checksum(meta);
+    if stored == 0xFFFF {
+        return traits::app_present(flash);
+    }
+    let size = boot_meta_store::app_size(meta) as usize;
+    if capacity < size {
+        return false;
+    }
+    crc::crc16(crc::CRC_INIT, first(flash, size)) == stored
+}
+
+fn done(step: Step) -> bool
+    ensures { λ r. ⌜ r ≡ eqb (stepNumber step) 0 ⌝ }
+{
+    match step {
+        Step::Done => true,
+        Step::InvalidTransition => false,
+        Step::TrialsExhausted => false,
+    }
+}
+
+// A trial is used where one is left; whether one was.
+fn use_trial(meta: &mut [u8]) -> bool
+    ensures { λ r. ⌜ clears r (now (meta .exit)) ≡ triedOf (now (meta .entry)) ⌝ }
+{
+    if boot_meta_store::has_trials(meta) {
+        return done(boot_meta_store::consume_trial(meta));
+    }
+    false
+}
+
+// Whether the record lets a start go on to the image.
+fn cleared(meta: &mut [u8]) -> bool
+    ensures { λ r. ⌜ clears r (now (meta .exit)) ≡ clearedOf (now (meta .entry)) ⌝ }
+{
+    let state = boot_meta_store::boot_state(meta);
+    match state {
+        BootState::Idle => true,
+        BootState::Updating => false,
+        BootState::Validating => use_trial(meta),
+    }
+}
+
+// What a start decides. Of the record nothing but the trials byte changes.
+pub fn check_boot_state(capacity: usize, mode: RunMode, flash: &[u8], meta: &mut [u8]) -> RunMode
+    ensures { λ r. ⌜ decided r (now (meta .exit)) ≡ startOf capacity (modeNumber mode) (now (flash .entry)) (now (meta .entry)) ⌝ }
+{
+    if let RunMode::Service = mode {
+        return RunMode::Service;
+    }
+    if cleared(meta) {
+        if validate_app(capacity, flash, meta) {
+            return RunMode::HandOff;
+        }
+    }
+    RunMode::Service
+}
