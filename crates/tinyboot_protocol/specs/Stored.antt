@@ -12,11 +12,16 @@ use Rattle.tinyboot_protocol.specs.declared.frame.Kind.{Kind}
 use Rattle.tinyboot_protocol.specs.declared.frame.End.{End}
 use Rattle.tinyboot_protocol.specs.declared.frame.End.the-variants.{Going, Over}
 use Rattle.tinyboot_protocol.specs.declared.frame.Stop.{Stop}
+use Rattle.tinyboot_protocol.specs.declared.frame.Frame.{Frame}
 use Rattle.tinyboot_protocol.specs.Reading.{lenOf, verdictOf, kindStatus, Outcome, Begun, Ended, readFrame}
 
 -- a frame with nothing in it: AA 55, and zero elsewhere (01, Frame bytes, the data area of a new state)
 abbrev pub newFrame : ℕ → List ℕ
 newFrame cap = 0xAA ∷ 0x55 ∷ replicate {A = ℕ} (10 + cap) 0
+
+-- the code's frame, of its bytes and the count of bytes begun
+abbrev pub framed : List ℕ → ℕ → Frame
+framed f g = record { bytes = f; got = g }
 
 -- the bytes of the frame begun, g of them, in the order in which they came
 unfoldable pub begun : ℕ → List ℕ → ℕ → List ℕ

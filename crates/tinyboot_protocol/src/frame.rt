@@ -18,7 +18,7 @@ ghost use Rattle.tinyboot_protocol.specs.Crc.{crcOf};
 ghost use Rattle.tinyboot_protocol.specs.Info.{infoBytes};
 ghost use Rattle.tinyboot_protocol.specs.Reading.{lenOf, overhears, verdictOf, checked, kindStatus, readFrame};
 ghost use Rattle.tinyboot_protocol.specs.Sent.{sealed, sent, sendOf};
-ghost use Rattle.tinyboot_protocol.specs.Stored.{newFrame, begun, goes, wellOf, Well, wantedOf, After, Turned, outOf, ended, saidOf, seen, readOf};
+ghost use Rattle.tinyboot_protocol.specs.Stored.{newFrame, framed, begun, goes, wellOf, Well, wantedOf, After, Turned, outOf, ended, saidOf, seen, readOf};
 
 // The largest payload that a request may carry. With the 12 bytes of framing a full frame is 64 bytes.
 pub const DEFAULT_PAYLOAD: usize = 52;
@@ -57,7 +57,7 @@ pub struct Frame {
 impl Frame {
     // No frame begun; the data area is zero.
     pub fn new() -> Frame
-        ensures { λ r. ⌜ (r .bytes ≡ newFrame 52) × (r .got ≡ 0) ⌝ }
+        ensures { λ r. ⌜ r ≡ framed (newFrame 52) 0 ⌝ }
     {
         let mut bytes = [0u8; 64];
         bytes[0] = Sync::VALID.0;
