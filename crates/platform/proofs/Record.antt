@@ -1,20 +1,20 @@
 -- What callers use of the record of 12 bytes: every field after each change, its length, and the worked steps.
-use mathlib.Core.Path.{_≡_, refl, ap₂, _∙_}
+use mathlib.Core.Path.{_≡_, refl, sym, ap₂, _∙_}
 use mathlib.Core.List.{List, [], _∷_, _++_}
 use mathlib.Core.Bool.{Bool, true, false}
 use Prim.Native.Nat.{ℕ, _≤_, _<_, _/_}
 use native.Mathlib.Nat.{mod-eq-of-lt, le-refl}
-use lib.Dec.{leb}
+use lib.Dec.{leb, ltb}
 use lib.Bits.{and-le-l}
 use Rattle.laws.specs.Pick.{pick}
 use native.Mathlib.Omega.{arith}
-use lib.ListN.{length, set, length-set}
+use lib.ListN.{length, getD, set, length-set}
 use lib.Seq.{length-sets, set-getD}
-use borrow.Author.Tests.{le-leb, lt-leb}
+use borrow.Author.Tests.{le-leb, lt-leb, ltb-true, ltb-false}
 use Rattle.laws.specs.Low.{lowFirst, lowBytes}
 use Rattle.laws.proofs.Low.{low-read}
 use Rattle.platform.specs.declared.boot_meta_store.Step.{Step}
-use Rattle.platform.specs.Record.{stepNumber, stateOf, trialsOf, checksumOf, sizeOf, baudOf, reservedOf, refreshed, baudSet, half, stepped, stepAnswer, advanced, trialUsed}
+use Rattle.platform.specs.Record.{left, stepNumber, stateOf, trialsOf, checksumOf, sizeOf, baudOf, reservedOf, refreshed, baudSet, half, stepped, stepAnswer, advanced, trialUsed}
 
 -- all that a record says, by name
 pub record Fields : Type 0 where
@@ -175,3 +175,11 @@ row9-full = (refl, refl, refl, refl, refl, refl, refl, refl)
 pub row9-gap : (stepped 0 0xB0 ≡ 0x10) × (stepped 0 0x10 ≡ 0)
 unfolding stepped
 row9-gap = (refl, refl)
+
+-- the two ends of a step of the byte at `at`: b says whether it was taken
+module _ (floor refusal at : ℕ) (m m' : List ℕ) (b : Bool) (e : b ≡ ltb floor (getD m at 0xFF)) (w : m' ≡ set m at (stepped floor (getD m at 0xFF))) where
+  pub step-taken : b ≡ true → left 0 m' ≡ left (stepAnswer floor refusal (getD m at 0xFF)) (set m at (stepped floor (getD m at 0xFF)))
+  step-taken t = rw (w, answer-above floor refusal (getD m at 0xFF) (ltb-true _ _ (sym e ∙ t))) refl
+
+  pub step-left : b ≡ false → left refusal m' ≡ left (stepAnswer floor refusal (getD m at 0xFF)) (set m at (stepped floor (getD m at 0xFF)))
+  step-left t = rw (w, answer-below floor refusal (getD m at 0xFF) (ltb-false _ _ (sym e ∙ t))) refl

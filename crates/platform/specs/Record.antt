@@ -69,6 +69,23 @@ trialAnswer m = stepAnswer 0 2 (trialsOf m)
 abbrev pub trialUsed : List ℕ → List ℕ
 trialUsed m = set m 1 (stepped 0 (trialsOf m))
 
+-- what a step leaves: the number of its answer, and the record
+pub record Stepped : Type 0 where
+  pub answer : ℕ
+  pub meta : List ℕ
+
+abbrev pub left : ℕ → List ℕ → Stepped
+left answer m = record { answer = answer; meta = m }
+
+abbrev pub stepsTo : Step → List ℕ → Stepped
+stepsTo s = left (stepNumber s)
+
+abbrev pub advanceOf : List ℕ → Stepped
+advanceOf m = left (advanceAnswer m) (advanced m)
+
+abbrev pub trialOf : List ℕ → Stepped
+trialOf m = left (trialAnswer m) (trialUsed m)
+
 -- the longest run among the d low bits of x, where the run under way has `run` ones
 unfoldable pub longest : ℕ → ℕ → ℕ → ℕ
 longest zero x run = run

@@ -10,7 +10,7 @@ ghost use mathlib.Core.Bool.{not};
 ghost use lib.Dec.{ltb, eqb};
 ghost use lib.ListN.{getD, set};
 ghost use Rattle.platform.specs.State.{stateByte, stateRead};
-ghost use Rattle.platform.specs.Record.{stateOf, trialsOf, checksumOf, sizeOf, baudOf, stepped, stepNumber, advanceAnswer, advanced, trialAnswer, trialUsed, baudSet, refreshed, startsLeft};
+ghost use Rattle.platform.specs.Record.{stateOf, trialsOf, checksumOf, sizeOf, baudOf, stepped, stepsTo, advanceOf, trialOf, baudSet, refreshed, startsLeft};
 
 // Where the fields stand; 9 to 11 are reserved, and kept.
 const STATE: usize = 0;
@@ -86,8 +86,7 @@ fn step_down(meta: &mut [u8], at: usize, floor: u8) -> bool
 
 // The floor is Validating's byte.
 pub fn advance(meta: &mut [u8]) -> Step
-    ensures { λ r. ⌜ (stepNumber r ≡ advanceAnswer (now (meta .entry))) ×
-        (now (meta .exit) ≡ advanced (now (meta .entry))) ⌝ }
+    ensures { λ r. ⌜ stepsTo r (now (meta .exit)) ≡ advanceOf (now (meta .entry)) ⌝ }
 {
     if step_down(meta, STATE, 0x3F) {
         return Step::Done;
@@ -96,8 +95,7 @@ pub fn advance(meta: &mut [u8]) -> Step
 }
 
 pub fn consume_trial(meta: &mut [u8]) -> Step
-    ensures { λ r. ⌜ (stepNumber r ≡ trialAnswer (now (meta .entry))) ×
-        (now (meta .exit) ≡ trialUsed (now (meta .entry))) ⌝ }
+    ensures { λ r. ⌜ stepsTo r (now (meta .exit)) ≡ trialOf (now (meta .entry)) ⌝ }
 {
     if step_down(meta, TRIALS, 0) {
         return Step::Done;

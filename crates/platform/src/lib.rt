@@ -1,5 +1,5 @@
 // The platform: flash and record, lent as arrays, where tinyboot has a chip behind traits.
 pub mod boot_meta_store;
-mod cells;
+pub mod cells;
 pub mod storage;
 pub mod traits;

@@ -2,26 +2,16 @@
 
 use platform::boot_meta_store;
 use platform::boot_meta_store::Step;
+use platform::cells::first;
 use platform::traits;
 use platform::traits::BootState;
 use tinyboot_protocol::RunMode;
 use tinyboot_protocol::crc;
 ghost use mathlib.Core.Path.{_≡_};
 ghost use lib.Dec.{eqb};
-ghost use lib.ListN.{take};
 ghost use Rattle.platform.specs.Record.{stepNumber};
 ghost use Rattle.tinyboot_core.specs.Start.{validOf, triedOf, clearedOf, clears, startOf, decided};
 ghost use Rattle.tinyboot_protocol.specs.Names.{modeNumber};
-
-// The first n bytes, or all of them where there are fewer.
-fn first<'a>(flash: &'a [u8], n: usize) -> &'a [u8]
-    ensures { λ r. ⌜ now r ≡ take n (now (flash .entry)) ⌝ }
-{
-    if n <= flash.len() {
-        return &flash[..n];
-    }
-    flash
-}
 
 // Whether the image may run. The CRC covers the stored size only, not the whole flash.
 fn validate_app(capacity: usize, flash: &[u8], meta: &[u8]) -> bool

@@ -1,7 +1,5 @@
 -- The step's result says which answer; its bytes are the definition's.
-use mathlib.Core.Path.{sym, _∙_}
-use borrow.Author.Tests.{ltb-true, ltb-false}
-use Rattle.platform.proofs.Record.{answer-above, answer-below}
+use Rattle.platform.proofs.Record.{step-taken, step-left}
 use borrow.Author.Needs.{needs}
 use Rattle.platform.proofs.boot_meta_store.advance.Statement.{statement}
 use Rattle.platform.proofs.boot_meta_store.advance.Tie as tie
@@ -15,7 +13,7 @@ same-length c = search needs
 returns : tie.Need-returns
 returns c =
     let s = c .before .before .before .step-down in
-    (sym (answer-above 0x3F 1 _ (ltb-true _ _ (sym (s .ensures .0) ∙ c .if1 .taken))), s .ensures .1)
+    step-taken 0x3F 1 0 (c .before .before .before .before .before .before .args .meta .now) _ _ (s .ensures .0) (s .ensures .1) (c .if1 .taken)
 
 same-length-2 : tie.Need-same-length-2
 same-length-2 c = search needs
@@ -23,7 +21,7 @@ same-length-2 c = search needs
 returns-2 : tie.Need-returns-2
 returns-2 c =
     let s = c .before .before .before .step-down in
-    (sym (answer-below 0x3F 1 _ (ltb-false _ _ (sym (s .ensures .0) ∙ c .if1 .left))), s .ensures .1)
+    step-left 0x3F 1 0 (c .before .before .before .before .before .before .args .meta .now) _ _ (s .ensures .0) (s .ensures .1) (c .if1 .left)
 
 pub advance-spec : {M : Type 1} → statement M
 advance-spec = tie.close (tie.spec step-down-requires same-length returns same-length-2 returns-2)

@@ -1,3 +1,5 @@
+use mathlib.Core.Path.{ap}
+use Rattle.platform.specs.Record.{Stepped}
 use Rattle.tinyboot_core.proofs.Starting.{tried-none, tried-one}
 use native.Mathlib.Omega.{arith}
 use borrow.Author.Needs.{needs}
@@ -20,8 +22,8 @@ returns : tie.Need-returns
 returns c =
     let a = c .before .before .before .before .before .before .before .before .before .args in
     let t = c .before .before .before .consume-trial in
-    rw (t .ensures .1)
-    (tried-one (a .meta .now) _ (c .before .before .before .before .before .if1 .taken) (c .before .before .before .before .before .before .has-trials .ensures) _ _ (c .done .ensures) (t .ensures .0))
+    rw (ap (λ (x : Stepped). x .meta) (t .ensures))
+    (tried-one (a .meta .now) _ (c .before .before .before .before .before .if1 .taken) (c .before .before .before .before .before .before .has-trials .ensures) _ _ (c .done .ensures) (ap (λ (x : Stepped). x .answer) (t .ensures)))
 
 same-length-2 : tie.Need-same-length-2
 same-length-2 c = search needs
