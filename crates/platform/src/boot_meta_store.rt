@@ -10,7 +10,7 @@ ghost use mathlib.Core.Bool.{not};
 ghost use lib.Dec.{ltb, eqb};
 ghost use lib.ListN.{getD, set};
 ghost use Rattle.platform.specs.State.{stateByte, stateRead};
-ghost use Rattle.platform.specs.Record.{stateOf, trialsOf, checksumOf, sizeOf, baudOf, stepped, stepsTo, advanceOf, trialOf, baudSet, refreshed, startsLeft};
+ghost use Rattle.platform.specs.Record.{stepNumber, stateOf, trialsOf, checksumOf, sizeOf, baudOf, stepped, stepsTo, advanceOf, trialOf, baudSet, refreshed, startsLeft};
 
 // Where the fields stand; 9 to 11 are reserved, and kept.
 const STATE: usize = 0;
@@ -27,6 +27,18 @@ pub enum Step {
     Done,
     InvalidTransition,
     TrialsExhausted,
+}
+
+impl Step {
+    pub fn done(self) -> bool
+        ensures { λ r. ⌜ r ≡ eqb (stepNumber self) 0 ⌝ }
+    {
+        match self {
+            Step::Done => true,
+            Step::InvalidTransition => false,
+            Step::TrialsExhausted => false,
+        }
+    }
 }
 
 pub fn boot_state(meta: &[u8]) -> BootState

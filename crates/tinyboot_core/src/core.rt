@@ -1,15 +1,12 @@
 // Translated from tinyboot, lib/core/src/core.rs (MIT OR Apache-2.0); changed: the decision alone, over a lent flash and record.
 
 use platform::boot_meta_store;
-use platform::boot_meta_store::Step;
 use platform::cells::first;
 use platform::traits;
 use platform::traits::BootState;
 use tinyboot_protocol::RunMode;
 use tinyboot_protocol::crc;
 ghost use mathlib.Core.Path.{_≡_};
-ghost use lib.Dec.{eqb};
-ghost use Rattle.platform.specs.Record.{stepNumber};
 ghost use Rattle.tinyboot_core.specs.Start.{validOf, triedOf, clearedOf, clears, startOf, decided};
 ghost use Rattle.tinyboot_protocol.specs.Names.{modeNumber};
 
@@ -28,22 +25,12 @@ fn validate_app(capacity: usize, flash: &[u8], meta: &[u8]) -> bool
     crc::crc16(crc::CRC_INIT, first(flash, size)) == stored
 }
 
-fn done(step: Step) -> bool
-    ensures { λ r. ⌜ r ≡ eqb (stepNumber step) 0 ⌝ }
-{
-    match step {
-        Step::Done => true,
-        Step::InvalidTransition => false,
-        Step::TrialsExhausted => false,
-    }
-}
-
 // A trial is used where one is left; whether one was.
 fn use_trial(meta: &mut [u8]) -> bool
     ensures { λ r. ⌜ clears r (now (meta .exit)) ≡ triedOf (now (meta .entry)) ⌝ }
 {
     if boot_meta_store::has_trials(meta) {
-        return done(boot_meta_store::consume_trial(meta));
+        return boot_meta_store::consume_trial(meta).done();
     }
     false
 }

@@ -1,8 +1,7 @@
 use mathlib.Core.Path.{refl}
-use native.Mathlib.Omega.{arith}
 use borrow.Author.Needs.{needs}
-use Rattle.tinyboot_core.proofs.core.done.Statement.{statement}
-use Rattle.tinyboot_core.proofs.core.done.Tie as tie
+use Rattle.commands.proofs.erase.status_of.Statement.{statement}
+use Rattle.commands.proofs.erase.status_of.Tie as tie
 
 enum-told : tie.Need-enum-told
 enum-told c = search needs
@@ -22,5 +21,5 @@ returns-2 c = rw (c .enum-told2 .given .1) refl
 returns-3 : tie.Need-returns-3
 returns-3 c = rw (c .enum-told3 .given .1) refl
 
-pub done-spec : {M : Type 1} → statement M
-done-spec = tie.close (tie.spec enum-told enum-told-2 enum-told-3 returns returns-2 returns-3)
+pub status-of-spec : {M : Type 1} → statement M
+status-of-spec = tie.close (tie.spec enum-told enum-told-2 enum-told-3 returns returns-2 returns-3)

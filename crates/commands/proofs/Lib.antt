@@ -1,0 +1,4 @@
+pub mod Erasing
+pub mod Resetting
+pub mod Rows
+pub mod Verifying
