@@ -2,7 +2,7 @@
 use Prim.Native.Nat.{ℕ, _-_}
 use mathlib.Core.Bool.{_||_}
 use mathlib.Core.List.{List, [], _∷_, _++_}
-use lib.ListN.{getD}
+use lib.ListN.{getD, take, drop}
 use lib.Dec.{ltb}
 use Rattle.laws.specs.Pick.{pick}
 use Rattle.laws.specs.Low.{lowFirst, lowBytes}
@@ -22,3 +22,7 @@ infoOf cap capacity erase version key flash meta =
     (lowBytes 2 version ++
     (lowBytes 2 (appVersion capacity flash meta) ++
     (0 ∷ baudOf meta ∷ (lowBytes 4 key ++ lowBytes 2 cap)))))
+
+-- the reply in a frame: over the data area, every other byte kept
+abbrev pub infoLaid : List ℕ → List ℕ → List ℕ
+infoLaid f info = take 10 f ++ (info ++ drop 28 f)

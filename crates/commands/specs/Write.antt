@@ -18,13 +18,20 @@ pub record Run : Type 0 where
   pub next : ℕ
   pub failed : Bool
 
+abbrev pub running : List ℕ → List ℕ → ℕ → ℕ → Bool → Run
+running flash p fill next failed = record { flash = flash; page = p; fill = fill; next = next; failed = failed }
+
 -- no write is pending
 abbrev pub none : ℕ
 none = 0xFFFFFFFF
 
+-- whether the storage's answer is a refusal
+abbrev pub fails : ℕ → Bool
+fails answer = pick (eqb answer 0) false true
+
 -- the first n bytes of the page are written to where they belong, before the next byte
 abbrev pub wrote : Left → Run → Run
-wrote left w = record { flash = left .cells; page = w .page; fill = 0; next = w .next; failed = w .failed || pick (eqb (left .answer) 0) false true }
+wrote left w = record { flash = left .cells; page = w .page; fill = 0; next = w .next; failed = w .failed || fails (left .answer) }
 
 abbrev pub pageOut : ℕ → ℕ → Run → Run
 pageOut page n w = wrote (writeOf page (w .flash) (w .next - n) (take n (w .page))) w
@@ -63,8 +70,8 @@ pub record Wrote : Type 0 where
 abbrev pub done : Run → Wrote
 done w = record { status = pick (w .failed) WriteError Ok; flash = w .flash; page = w .page; fill = w .fill; next = w .next }
 
-abbrev pub refused : ℕ → List ℕ → List ℕ → ℕ → ℕ → Wrote
-refused status flash p fill next = record { status = status; flash = flash; page = p; fill = fill; next = next }
+abbrev pub wroteTo : ℕ → List ℕ → List ℕ → ℕ → ℕ → Wrote
+wroteTo status flash p fill next = record { status = status; flash = flash; page = p; fill = fill; next = next }
 
 -- a byte's place in its page follows from its address: in a well-formed state it is the fill
 abbrev pub begin : ℕ → List ℕ → List ℕ → List ℕ → Run
@@ -77,5 +84,5 @@ unfoldable pub cmdWriteOf : ℕ → ℕ → List ℕ → List ℕ → List ℕ �
 cmdWriteOf page capacity f flash p fill next meta =
     pick (updating meta)
     (pick (writeFits page capacity f next) (done (writtenOf page f (begin page f flash p)))
-    (refused AddrOutOfBounds flash p fill next))
-    (refused Unsupported flash p fill next)
+    (wroteTo AddrOutOfBounds flash p fill next))
+    (wroteTo Unsupported flash p fill next)
