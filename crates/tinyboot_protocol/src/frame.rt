@@ -122,14 +122,6 @@ struct Turn {
     end: End,
 }
 
-// The length in the header.
-fn len(f: &[u8]) -> usize
-    requires { ⌜ length (now f) ≡ 64 ⌝ }
-    ensures { λ r. ⌜ (r ≡ lenOf (now (f .entry))) × (r < 65536) ⌝ }
-{
-    le::read16(f[8], f[9]) as usize
-}
-
 // Whether a frame of this status is overheard.
 fn heard(device: bool, status: u8) -> bool
     ensures { λ r. ⌜ r ≡ overhears device status ⌝ }
@@ -138,6 +130,14 @@ fn heard(device: bool, status: u8) -> bool
         return status != 0;
     }
     false
+}
+
+// The length in the header.
+fn len(f: &[u8]) -> usize
+    requires { ⌜ length (now f) ≡ 64 ⌝ }
+    ensures { λ r. ⌜ (r ≡ lenOf (now (f .entry))) × (r < 65536) ⌝ }
+{
+    le::read16(f[8], f[9]) as usize
 }
 
 // Whether no command or no status has this number.
