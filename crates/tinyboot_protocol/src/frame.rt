@@ -387,6 +387,13 @@ fn well(f: &[u8], got: usize, device: bool) -> bool
     false
 }
 
+// Whether the first `got` bytes of a lent frame are a true beginning of one.
+pub fn is_beginning(f: &[u8; 64], got: usize, device: bool) -> bool
+    ensures { λ r. ⌜ r ≡ wellOf 52 device (now (f .entry)) got ⌝ }
+{
+    well(f, got, device)
+}
+
 // Takes bytes until the first frame has ended, into a lent frame of which `got` bytes have begun: nothing is copied but the bytes. A device
 // overhears what is no request; the desk reads every status.
 pub fn read_in(f: &mut [u8; 64], got: usize, device: bool, bytes: &[u8]) -> Passed
