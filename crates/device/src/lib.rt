@@ -1,6 +1,7 @@
 // Translated from tinyboot, lib/core/src/protocol.rs (MIT OR Apache-2.0); changed: the dispatcher's fields are a state that goes by value, and what its types
 // fix at build time is a setup.
 pub mod refusal;
+pub mod start;
 
 use tinyboot_protocol::frame::Frame;
 

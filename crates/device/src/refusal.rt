@@ -3,6 +3,7 @@
 use crate::Setup;
 use tinyboot_protocol::frame;
 ghost use mathlib.Core.Path.{_≡_};
+ghost use lib.Dec.{eqb};
 ghost use Rattle.device.specs.Refusals.{eraseFits, capacityFits, setUp, runFits, wellFormed, refusalNumber, lengthsOf, refusalOf};
 
 // The refusals of 01, in its table's order.
@@ -14,6 +15,22 @@ pub enum Refusal {
     BadRecord,
     NoRoom,
     Closed,
+}
+
+impl Refusal {
+    pub fn is_none(self) -> bool
+        ensures { λ r. ⌜ r ≡ eqb (refusalNumber self) 0 ⌝ }
+    {
+        match self {
+            Refusal::None => true,
+            Refusal::BadSetup => false,
+            Refusal::BadState => false,
+            Refusal::BadFlash => false,
+            Refusal::BadRecord => false,
+            Refusal::NoRoom => false,
+            Refusal::Closed => false,
+        }
+    }
 }
 
 fn erase_fits(erase: usize) -> bool
