@@ -10,11 +10,11 @@ use Rattle.device.specs.declared.Setup.{Setup}
 use Rattle.device.specs.Starts.{Left, startRefusal, left, decidedTo, startedOf}
 
 -- n is the number of the refusal, b whether there is none
-module _ (s : Setup) (mode : ℕ) (flash meta : List ℕ) (n : ℕ) (e : n ≡ startRefusal s (length flash) (length meta)) (b : Bool) (w : b ≡ eqb n 0) where
-  pub start-taken : b ≡ true → (x : Left) → x ≡ decidedTo (startOf (s .capacity) mode flash meta) → x ≡ startedOf s mode flash meta
+module _ (s : Setup) (mode : ℕ) (flash meta : List ℕ) (n : ℕ) (e : n ≡ startRefusal 64 s (length flash) (length meta)) (b : Bool) (w : b ≡ eqb n 0) where
+  pub start-taken : b ≡ true → (x : Left) → x ≡ decidedTo 52 64 (startOf (s .capacity) mode flash meta) → x ≡ startedOf 52 64 s mode flash meta
   unfolding startedOf
-  start-taken t x k = let z : eqb (startRefusal s (length flash) (length meta)) 0 ≡ true = rw e at (sym w ∙ t) in k ∙ simp z
+  start-taken t x k = let z : eqb (startRefusal 64 s (length flash) (length meta)) 0 ≡ true = rw e at (sym w ∙ t) in k ∙ simp z
 
-  pub start-refused : b ≡ false → left n 1 true meta ≡ startedOf s mode flash meta
+  pub start-refused : b ≡ false → left 52 64 n 1 true meta ≡ startedOf 52 64 s mode flash meta
   unfolding startedOf
-  start-refused t = let z : eqb (startRefusal s (length flash) (length meta)) 0 ≡ false = rw e at (sym w ∙ t) in simp (z, e)
+  start-refused t = let z : eqb (startRefusal 64 s (length flash) (length meta)) 0 ≡ false = rw e at (sym w ∙ t) in simp (z, e)

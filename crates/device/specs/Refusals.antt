@@ -5,6 +5,7 @@ use mathlib.Core.List.{List}
 use lib.Dec.{leb, ltb, eqb}
 use Rattle.laws.specs.Pick.{pick}
 use Rattle.tinyboot_protocol.specs.Stored.{wellOf}
+use Rattle.device.specs.declared.Setup.{Setup}
 use Rattle.device.specs.declared.refusal.Refusal.{Refusal}
 
 -- the erase size: a multiple of the page, from one page to 32,768 (01, setup numbers)
@@ -48,6 +49,9 @@ lengthsOf cap capacity flash meta room closed =
     13)
     12
 
--- the first that applies, in the table's order
-unfoldable pub refusalOf : Bool → Bool → ℕ → ℕ
-refusalOf good well rest = pick good (pick well rest 11) 10
+-- the first that applies, in the table's order: the setup's, the state's, then those
+unfoldable pub refusalOf : ℕ → ℕ → Setup → List ℕ → ℕ → ℕ → ℕ → Bool → ℕ → ℕ → ℕ → ℕ
+refusalOf cap page s f g fill next closed flash meta room =
+    pick (setUp page (s .«erase_size») (s .capacity) (s .«id_len»))
+    (pick (wellFormed cap page (s .capacity) f g fill next) (lengthsOf cap (s .capacity) flash meta room closed) 11)
+    10

@@ -13,12 +13,12 @@ use Rattle.device.specs.declared.State.{State}
 use Rattle.device.specs.declared.start.Started.{Started}
 use Rattle.device.specs.Refusals.{setUp, refusalNumber}
 
--- a new state: no frame, no run, deselected
-abbrev pub newState : Bool → State
-newState closed =
+-- a new state, of payload capacity cap and pages of so many bytes: no frame, no run, deselected
+abbrev pub newState : ℕ → ℕ → Bool → State
+newState cap page closed =
     record {
-      frame = framed (newFrame 52) 0;
-      page = replicate {A = ℕ} 64 0;
+      frame = framed (newFrame cap) 0;
+      page = replicate {A = ℕ} page 0;
       fill = 0;
       next = 0xFFFFFFFF;
       selected = false;
@@ -26,9 +26,9 @@ newState closed =
     }
 
 -- a start refuses a setup, a flash or a record, in that order
-unfoldable pub startRefusal : Setup → ℕ → ℕ → ℕ
-startRefusal s flash meta =
-    pick (setUp 64 (s .«erase_size») (s .capacity) (s .«id_len»)) (pick (eqb flash (s .capacity)) (pick (eqb meta 12) 0 13) 12) 10
+unfoldable pub startRefusal : ℕ → Setup → ℕ → ℕ → ℕ
+startRefusal page s flash meta =
+    pick (setUp page (s .«erase_size») (s .capacity) (s .«id_len»)) (pick (eqb flash (s .capacity)) (pick (eqb meta 12) 0 13) 12) 10
 
 -- what a start leaves: the number of its answer, its mode (hand-off 0, Service 1), the state and the record
 pub record Left : Type 0 where
@@ -37,18 +37,18 @@ pub record Left : Type 0 where
   pub state : State
   pub meta : List ℕ
 
-abbrev pub left : ℕ → ℕ → Bool → List ℕ → Left
-left answer mode closed meta = record { answer = answer; mode = mode; state = newState closed; meta = meta }
+abbrev pub left : ℕ → ℕ → ℕ → ℕ → Bool → List ℕ → Left
+left cap page answer mode closed meta = record { answer = answer; mode = mode; state = newState cap page closed; meta = meta }
 
 abbrev pub startedTo : Started → List ℕ → Left
 startedTo r meta = record { answer = refusalNumber (r .refusal); mode = modeNumber (r .mode); state = r .state; meta = meta }
 
 -- the decision, with a state that is open on Service and closed on a hand-off
-abbrev pub decidedTo : Decision → Left
-decidedTo d = left 0 (d .mode) (eqb (d .mode) 0) (d .meta)
+abbrev pub decidedTo : ℕ → ℕ → Decision → Left
+decidedTo cap page d = left cap page 0 (d .mode) (eqb (d .mode) 0) (d .meta)
 
 -- refused: Service, a closed state, and nothing changed
-unfoldable pub startedOf : Setup → ℕ → List ℕ → List ℕ → Left
-startedOf s mode flash meta =
-    pick (eqb (startRefusal s (length flash) (length meta)) 0) (decidedTo (startOf (s .capacity) mode flash meta))
-    (left (startRefusal s (length flash) (length meta)) 1 true meta)
+unfoldable pub startedOf : ℕ → ℕ → Setup → ℕ → List ℕ → List ℕ → Left
+startedOf cap page s mode flash meta =
+    pick (eqb (startRefusal page s (length flash) (length meta)) 0) (decidedTo cap page (startOf (s .capacity) mode flash meta))
+    (left cap page (startRefusal page s (length flash) (length meta)) 1 true meta)

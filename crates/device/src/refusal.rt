@@ -128,7 +128,7 @@ pub fn refuses(
     meta: usize,
     room: usize,
 ) -> Refusal
-    ensures { λ r. ⌜ refusalNumber r ≡ refusalOf (setUp 64 (setup .«erase_size») (setup .capacity) (setup .«id_len»)) (wellFormed 52 64 (setup .capacity) (now (f .entry)) got fill next) (lengthsOf 52 (setup .capacity) flash meta room closed) ⌝ }
+    ensures { λ r. ⌜ refusalNumber r ≡ refusalOf 52 64 setup (now (f .entry)) got fill next closed flash meta room ⌝ }
 {
     if set_up(setup) {
         if well_formed(setup.capacity, f, got, fill, next) {

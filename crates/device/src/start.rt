@@ -25,7 +25,7 @@ pub struct Started {
 
 // No frame, no run, deselected.
 pub fn new_state(closed: bool) -> State
-    ensures { λ r. ⌜ r ≡ newState closed ⌝ }
+    ensures { λ r. ⌜ r ≡ newState 52 64 closed ⌝ }
 {
     State {
         frame: Frame::new(),
@@ -47,7 +47,7 @@ fn hands_off(mode: RunMode) -> bool
 }
 
 fn refuses(setup: Setup, flash: usize, meta: usize) -> Refusal
-    ensures { λ r. ⌜ refusalNumber r ≡ startRefusal setup flash meta ⌝ }
+    ensures { λ r. ⌜ refusalNumber r ≡ startRefusal 64 setup flash meta ⌝ }
 {
     let capacity = setup.capacity;
     if refusal::set_up(setup) {
@@ -63,7 +63,7 @@ fn refuses(setup: Setup, flash: usize, meta: usize) -> Refusal
 }
 
 fn refused(refusal: Refusal) -> Started
-    ensures { λ r. ⌜ (r .state ≡ newState true) × (refusalNumber (r .refusal) ≡ refusalNumber refusal) × (modeNumber (r .mode) ≡ 1) ⌝ }
+    ensures { λ r. ⌜ (r .state ≡ newState 52 64 true) × (refusalNumber (r .refusal) ≡ refusalNumber refusal) × (modeNumber (r .mode) ≡ 1) ⌝ }
 {
     Started {
         state: new_state(true),
@@ -73,7 +73,7 @@ fn refused(refusal: Refusal) -> Started
 }
 
 fn begun(capacity: usize, mode: RunMode, flash: &[u8], meta: &mut [u8]) -> Started
-    ensures { λ r. ⌜ startedTo r (now (meta .exit)) ≡ decidedTo (startOf capacity (modeNumber mode) (now (flash .entry)) (now (meta .entry))) ⌝ }
+    ensures { λ r. ⌜ startedTo r (now (meta .exit)) ≡ decidedTo 52 64 (startOf capacity (modeNumber mode) (now (flash .entry)) (now (meta .entry))) ⌝ }
 {
     let decision = core::check_boot_state(capacity, mode, flash, meta);
     Started {
@@ -85,7 +85,7 @@ fn begun(capacity: usize, mode: RunMode, flash: &[u8], meta: &mut [u8]) -> Start
 
 // A restart, or the first start: with Service asked for, or to the app.
 pub fn start(setup: Setup, mode: RunMode, flash: &[u8], meta: &mut [u8]) -> Started
-    ensures { λ r. ⌜ startedTo r (now (meta .exit)) ≡ startedOf setup (modeNumber mode) (now (flash .entry)) (now (meta .entry)) ⌝ }
+    ensures { λ r. ⌜ startedTo r (now (meta .exit)) ≡ startedOf 52 64 setup (modeNumber mode) (now (flash .entry)) (now (meta .entry)) ⌝ }
 {
     let refusal = refuses(setup, flash.len(), meta.len());
     if refusal.is_none() {

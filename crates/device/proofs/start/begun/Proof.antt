@@ -19,7 +19,7 @@ same-length : tie.Need-same-length
 same-length c = search needs
 
 returns : tie.Need-returns
-returns c = rw (c .new-state .ensures, c .before .hands-off .ensures) (ap decidedTo (c .before .before .before .before .check-boot-state .ensures))
+returns c = rw (c .new-state .ensures, c .before .hands-off .ensures) (ap (decidedTo 52 64) (c .before .before .before .before .check-boot-state .ensures))
 
 pub begun-spec : {M : Type 1} → statement M
 begun-spec =
