@@ -1,0 +1,100 @@
+-- What becomes of a frame that has ended (01, Frame bytes, replies; Commands, Select). `status` is what the reader says of it: 0 overheard, 1 a good
+-- request, else the error.
+use Prim.Native.Nat.{ℕ, _/_, _%_}
+use mathlib.Core.Bool.{Bool, true, false}
+use mathlib.Core.List.{List}
+use lib.ListN.{length, take, set}
+use lib.Dec.{eqb}
+use Rattle.laws.specs.Pick.{pick}
+use Rattle.tinyboot_protocol.specs.Flags.{bitOf}
+use Rattle.tinyboot_protocol.specs.Reading.{cmdOf}
+use Rattle.tinyboot_protocol.specs.Sent.{Sent, sendOf}
+use Rattle.tinyboot_core.specs.Select.{Choice, selectOf}
+use Rattle.commands.specs.Fields.{flagsOf, Ok}
+use Rattle.device.specs.declared.Setup.{Setup}
+use Rattle.dispatcher.specs.declared.dispatch.Dispatched.{Dispatched}
+use Rattle.dispatcher.specs.Answers.{Told, mute, reply, restart, toldOf}
+use Rattle.dispatcher.specs.Handling.{Held, held, Obeyed, bare, loaded, handledOf}
+
+-- the reply's header: command, address and flags are kept (01, Frame bytes, a reply)
+abbrev pub headed : ℕ → ℕ → List ℕ → List ℕ
+headed status len f = set (set (set f 3 status) 8 (len % 256)) 9 (len / 256 % 256)
+
+-- a reply sent: what the call says, the frame's bytes and the room
+pub record Spoken : Type 0 where
+  pub told : Told
+  pub bytes : List ℕ
+  pub room : List ℕ
+
+abbrev pub spoken : Told → List ℕ → List ℕ → Spoken
+spoken t f room = record { told = t; bytes = f; room = room }
+
+-- after an accepted Reset a restart is due, in the mode that flags bit 0 asks for (01, Commands, Reset)
+abbrev pub saidBy : Bool → ℕ → ℕ → ℕ → Told
+saidBy true wait flags len = restart len (bitOf 0 flags)
+saidBy false wait flags len = reply len wait
+
+abbrev pub spokenBy : Bool → ℕ → ℕ → Sent → Spoken
+spokenBy due wait flags s = spoken (saidBy due wait flags (s .count)) (s .bytes) (s .room)
+
+unfoldable pub replyOf : ℕ → ℕ → ℕ → Bool → ℕ → List ℕ → List ℕ → Spoken
+replyOf cap status len due wait f room = spokenBy due wait (flagsOf f) (sendOf cap (headed status len f) room)
+
+-- all that a frame's end leaves
+pub record Ending : Type 0 where
+  pub told : Told
+  pub left : Held
+  pub selected : Bool
+  pub closed : Bool
+  pub room : List ℕ
+
+-- the code's struct, with what it was lent as it stands afterwards
+abbrev pub endedTo : Dispatched → List ℕ → List ℕ → List ℕ → List ℕ → List ℕ → Ending
+endedTo r f p flash meta room =
+    record { told = toldOf (r .answer); left = held f p (r .fill) (r .next) flash meta; selected = r .selected; closed = r .closed; room = room }
+
+abbrev pub silent : Held → Bool → List ℕ → Ending
+silent h selected room = record { told = mute 1; left = h; selected = selected; closed = false; room = room }
+
+-- the reply built in the frame; a restart closes the feed (01, What a call says, 3)
+abbrev pub spokenTo : Obeyed → Bool → Spoken → Ending
+spokenTo x selected s =
+    record {
+      told = s .told;
+      left = held (s .bytes) (x .left .page) (x .left .fill) (x .left .next) (x .left .flash) (x .left .meta);
+      selected = selected;
+      closed = x .restart;
+      room = s .room;
+    }
+
+unfoldable pub answeredOf : ℕ → ℕ → Obeyed → Bool → List ℕ → Ending
+answeredOf cap wait x selected room = spokenTo x selected (replyOf cap (x .status) (x .len) (x .restart) wait (x .left .bytes) room)
+
+-- a good request is carried out, an error is replied to with length 0 (01, Frame bytes, an error)
+unfoldable pub obeyedOf : ℕ → ℕ → Setup → ℕ → Held → Obeyed
+obeyedOf cap page s status h = pick (eqb status Ok) (handledOf cap page s h) (bare status h)
+
+-- unaddressed: all but what is overheard gets a reply
+unfoldable pub unaddressedOf : ℕ → ℕ → Setup → ℕ → Held → Bool → List ℕ → Ending
+unaddressedOf cap page s status h selected room =
+    pick (eqb status 0) (silent h selected room) (answeredOf cap 0 (obeyedOf cap page s status h) selected room)
+
+-- Select: the id is in the data area, match or not; a match replies with it after its wait
+abbrev pub laid : Held → Choice → Held
+laid h c = held (c .bytes) (h .page) (h .fill) (h .next) (h .flash) (h .meta)
+
+abbrev pub chosen : ℕ → ℕ → Held → List ℕ → Choice → Ending
+chosen cap idLen h room c = pick (c .match) (answeredOf cap (c .wait) (loaded idLen (laid h c)) true room) (silent (laid h c) false room)
+
+-- addressed: every error is silent, Select is for all, and another command for the selected (01, Frame bytes, addressed; Commands, Select)
+unfoldable pub addressedOf : ℕ → ℕ → Setup → ℕ → Held → Bool → List ℕ → Ending
+addressedOf cap page s status h selected room =
+    pick (eqb status Ok)
+    (pick (eqb (cmdOf (h .bytes)) 5) (chosen cap (length (take (s .«id_len») (s .id))) h room (selectOf (take (s .«id_len») (s .id)) (h .bytes)))
+    (pick selected (answeredOf cap 0 (handledOf cap page s h) selected room)
+    (silent h selected room)))
+    (silent h selected room)
+
+unfoldable pub dispatchOf : ℕ → ℕ → Setup → ℕ → Held → Bool → List ℕ → Ending
+dispatchOf cap page s status h selected room =
+    pick (eqb (s .«id_len») 0) (unaddressedOf cap page s status h selected room) (addressedOf cap page s status h selected room)

@@ -1,0 +1,293 @@
+// Translated from tinyboot, lib/core/src/protocol.rs (MIT OR Apache-2.0); changed: the reply is written into a lent room, the wait and the restart are
+// answers.
+
+use crate::Answer;
+use crate::handle;
+use crate::handle::Handled;
+use device::Setup;
+use tinyboot_core::addressing;
+use tinyboot_core::addressing::MAX_UID_LEN;
+use tinyboot_core::addressing::Selected;
+use tinyboot_protocol::Cmd;
+use tinyboot_protocol::ResetFlags;
+use tinyboot_protocol::Status;
+use tinyboot_protocol::frame;
+use tinyboot_protocol::le;
+ghost use mathlib.Core.Path.{_≡_};
+ghost use mathlib.Core.Bool.{true, false};
+ghost use mathlib.Core.List.{List};
+ghost use Prim.Native.Nat.{ℕ, _≤_};
+ghost use lib.Dec.{eqb};
+ghost use lib.ListN.{length, take};
+ghost use Rattle.tinyboot_protocol.specs.Names.{statusNumber};
+ghost use Rattle.tinyboot_protocol.specs.Reading.{cmdOf};
+ghost use Rattle.tinyboot_core.specs.Select.{selectOf};
+ghost use Rattle.commands.specs.Fields.{flagsOf};
+ghost use Rattle.dispatcher.specs.Answers.{mute as muteTold, toldOf};
+ghost use Rattle.dispatcher.specs.Handling.{held, handledTo};
+ghost use Rattle.dispatcher.specs.Dispatch.{headed, spoken, replyOf, endedTo, silent, answeredOf, obeyedOf, unaddressedOf, chosen, addressedOf, dispatchOf};
+
+// What the end of a frame leaves beside what it is lent.
+pub struct Dispatched {
+    pub answer: Answer,
+    pub fill: usize,
+    pub next: u32,
+    pub selected: bool,
+    pub closed: bool,
+}
+
+// Another device's reply.
+fn is_request(status: Status) -> bool
+    ensures { λ r. ⌜ r ≡ eqb (statusNumber status) 0 ⌝ }
+{
+    status.to_u8() == 0
+}
+
+// The reply's status and length.
+fn head(f: &mut [u8; 64], status: Status, len: u16)
+    ensures { λ r. ⌜ now (f .exit) ≡ headed (statusNumber status) len (now (f .entry)) ⌝ }
+{
+    let n = le::bytes16(len);
+    f[3] = status.to_u8();
+    f[8] = n[0];
+    f[9] = n[1];
+}
+
+fn flags(f: &[u8; 64]) -> ResetFlags
+    ensures { λ r. ⌜ r .bits ≡ flagsOf (now (f .entry)) ⌝ }
+{
+    ResetFlags { bits: f[7] }
+}
+
+// The reply is built in the frame and sent into the room.
+fn reply(h: Handled, wait: u8, f: &mut [u8; 64], room: &mut [u8]) -> Answer
+    ensures { λ r. ⌜ spoken (toldOf r) (now (f .exit)) (now (room .exit)) ≡ replyOf 52 (statusNumber (h .status)) (h .len) (h .restart) wait (now (f .entry)) (now (room .entry)) ⌝ }
+{
+    let asked = flags(f);
+    let status = h.status;
+    head(f, status, h.len);
+    let len = frame::send(f, room);
+    if h.restart {
+        return Answer::Restart {
+            len: len,
+            mode: asked.run_mode(),
+        };
+    }
+    Answer::Reply {
+        len: len,
+        wait: wait,
+    }
+}
+
+fn mute(fill: usize, next: u32, selected: bool) -> Dispatched
+    ensures { λ r. ⌜ (toldOf (r .answer) ≡ muteTold 1) × (r .fill ≡ fill) × (r .next ≡ next) × (r .selected ≡ selected) × (r .closed ≡ false) ⌝ }
+{
+    Dispatched {
+        answer: Answer::Silent,
+        fill: fill,
+        next: next,
+        selected: selected,
+        closed: false,
+    }
+}
+
+// A good request is carried out; an error is replied to.
+fn obey(
+    setup: Setup,
+    status: Status,
+    f: &mut [u8; 64],
+    page: &mut [u8; 64],
+    fill: usize,
+    next: u32,
+    flash: &mut [u8],
+    meta: &mut [u8],
+) -> Handled
+    ensures { λ r. ⌜ handledTo r (now (f .exit)) (now (page .exit)) (now (flash .exit)) (now (meta .exit)) ≡
+        obeyedOf 52 64 setup (statusNumber status) (held (now (f .entry)) (now (page .entry)) fill next (now (flash .entry)) (now (meta .entry))) ⌝ }
+{
+    if handle::is_ok(status) {
+        return handle::handle(setup, f, page, fill, next, flash, meta);
+    }
+    handle::bare(status, fill, next)
+}
+
+// What is not silent.
+fn answer(
+    setup: Setup,
+    status: Status,
+    f: &mut [u8; 64],
+    page: &mut [u8; 64],
+    fill: usize,
+    next: u32,
+    selected: bool,
+    flash: &mut [u8],
+    meta: &mut [u8],
+    room: &mut [u8],
+) -> Dispatched
+    ensures { λ r. ⌜ endedTo r (now (f .exit)) (now (page .exit)) (now (flash .exit)) (now (meta .exit)) (now (room .exit)) ≡
+        answeredOf 52 0 (obeyedOf 52 64 setup (statusNumber status) (held (now (f .entry)) (now (page .entry)) fill next (now (flash .entry)) (now (meta .entry)))) selected (now (room .entry)) ⌝ }
+{
+    let h = obey(setup, status, f, page, fill, next, flash, meta);
+    let a = reply(h, 0, f, room);
+    Dispatched {
+        answer: a,
+        fill: h.fill,
+        next: h.next,
+        selected: selected,
+        closed: h.restart,
+    }
+}
+
+fn is_select(f: &[u8; 64]) -> bool
+    ensures { λ r. ⌜ r ≡ eqb (cmdOf (now (f .entry))) 5 ⌝ }
+{
+    f[2] == 5
+}
+
+// The id's length, as a frame has it; a length above 16 means all 16 bytes.
+fn id_len(setup: Setup) -> u16
+    ensures { λ r. ⌜ r ≡ length (take (setup .«id_len») (setup .id)) ⌝ }
+{
+    if setup.id_len < MAX_UID_LEN {
+        return setup.id_len as u16;
+    }
+    16
+}
+
+fn select(setup: Setup, f: &mut [u8; 64], fill: usize, next: u32, room: &mut [u8]) -> Dispatched
+    ensures { λ r. ⌜ ((p flash meta : List ℕ) → endedTo r (now (f .exit)) p flash meta (now (room .exit)) ≡
+        chosen 52 (length (take (setup .«id_len») (setup .id))) (held (now (f .entry)) p fill next flash meta) (now (room .entry)) (selectOf (take (setup .«id_len») (setup .id)) (now (f .entry)))) ⌝ }
+{
+    let id = setup.id;
+    let choice = addressing::select(id, setup.id_len, f);
+    match choice {
+        Selected::Yes { wait } => {
+            let h = handle::loaded(id_len(setup), fill, next);
+            let a = reply(h, wait, f, room);
+            Dispatched {
+                answer: a,
+                fill: fill,
+                next: next,
+                selected: true,
+                closed: false,
+            }
+        }
+        Selected::No => mute(fill, next, false),
+    }
+}
+
+// An unaddressed device replies to all but another's reply.
+fn unaddressed(
+    setup: Setup,
+    status: Status,
+    f: &mut [u8; 64],
+    page: &mut [u8; 64],
+    fill: usize,
+    next: u32,
+    selected: bool,
+    flash: &mut [u8],
+    meta: &mut [u8],
+    room: &mut [u8],
+) -> Dispatched
+    ensures { λ r. ⌜ endedTo r (now (f .exit)) (now (page .exit)) (now (flash .exit)) (now (meta .exit)) (now (room .exit)) ≡
+        unaddressedOf 52 64 setup (statusNumber status) (held (now (f .entry)) (now (page .entry)) fill next (now (flash .entry)) (now (meta .entry))) selected (now (room .entry)) ⌝ }
+{
+    if is_request(status) {
+        return mute(fill, next, selected);
+    }
+    answer(
+        setup,
+        status,
+        f,
+        page,
+        fill,
+        next,
+        selected,
+        flash,
+        meta,
+        room,
+    )
+}
+
+// An addressed one replies to a Select that matches it and, while selected, to other requests.
+fn addressed(
+    setup: Setup,
+    status: Status,
+    f: &mut [u8; 64],
+    page: &mut [u8; 64],
+    fill: usize,
+    next: u32,
+    selected: bool,
+    flash: &mut [u8],
+    meta: &mut [u8],
+    room: &mut [u8],
+) -> Dispatched
+    ensures { λ r. ⌜ endedTo r (now (f .exit)) (now (page .exit)) (now (flash .exit)) (now (meta .exit)) (now (room .exit)) ≡
+        addressedOf 52 64 setup (statusNumber status) (held (now (f .entry)) (now (page .entry)) fill next (now (flash .entry)) (now (meta .entry))) selected (now (room .entry)) ⌝ }
+{
+    if !handle::is_ok(status) {
+        return mute(fill, next, selected);
+    }
+    if is_select(f) {
+        return select(setup, f, fill, next, room);
+    }
+    if selected {
+        return answer(
+            setup,
+            status,
+            f,
+            page,
+            fill,
+            next,
+            selected,
+            flash,
+            meta,
+            room,
+        );
+    }
+    mute(fill, next, selected)
+}
+
+// A frame that has ended, of which the reader says this.
+pub fn dispatch(
+    setup: Setup,
+    status: Status,
+    f: &mut [u8; 64],
+    page: &mut [u8; 64],
+    fill: usize,
+    next: u32,
+    selected: bool,
+    flash: &mut [u8],
+    meta: &mut [u8],
+    room: &mut [u8],
+) -> Dispatched
+    ensures { λ r. ⌜ endedTo r (now (f .exit)) (now (page .exit)) (now (flash .exit)) (now (meta .exit)) (now (room .exit)) ≡
+        dispatchOf 52 64 setup (statusNumber status) (held (now (f .entry)) (now (page .entry)) fill next (now (flash .entry)) (now (meta .entry))) selected (now (room .entry)) ⌝ }
+{
+    if setup.id_len == 0 {
+        return unaddressed(
+            setup,
+            status,
+            f,
+            page,
+            fill,
+            next,
+            selected,
+            flash,
+            meta,
+            room,
+        );
+    }
+    addressed(
+        setup,
+        status,
+        f,
+        page,
+        fill,
+        next,
+        selected,
+        flash,
+        meta,
+        room,
+    )
+}
