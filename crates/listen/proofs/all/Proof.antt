@@ -1,13 +1,16 @@
 use native.Mathlib.Omega.{arith}
 use borrow.Author.Needs.{needs}
-use Rattle.frames.proofs.all.Statement.{statement}
-use Rattle.frames.proofs.all.Tie as tie
+use Rattle.listen.proofs.all.Statement.{statement}
+use Rattle.listen.proofs.all.Tie as tie
 
 abbrev Inv-loop : tie.InvT-loop
-Inv-loop f₀ place₀ turns₀ f place turns = Unit {0}
+Inv-loop flash₀ meta₀ heard₀ turns₀ flash meta heard turns = Unit {0}
 
 abbrev μ-loop : tie.MeasureT-loop
-μ-loop f₀ place₀ turns₀ f place turns = turns
+μ-loop flash₀ meta₀ heard₀ turns₀ flash meta heard turns = turns
+
+new-state-requires : tie.Need-new-state-requires Inv-loop μ-loop
+new-state-requires c κs = search needs
 
 loop-holds : tie.Need-loop-holds Inv-loop μ-loop
 loop-holds c = search needs
@@ -30,16 +33,21 @@ returns c = search needs
 returns-2 : tie.Need-returns-2 Inv-loop μ-loop
 returns-2 c = search needs
 
+returns-3 : tie.Need-returns-3 Inv-loop μ-loop
+returns-3 c = search needs
+
 pub all-spec : {M : Type 1} → statement M
 all-spec =
     tie.close
     (tie.spec
     Inv-loop
     μ-loop
+    new-state-requires
     loop-holds
     some-requires
     sub-turns
     loop-less
     loop-again
     returns
-    returns-2)
+    returns-2
+    returns-3)
