@@ -1,2 +1,1 @@
-pub mod Obeying
 pub mod Replying

@@ -10,7 +10,7 @@ use Rattle.tinyboot_core.specs.Select.{Choice}
 use Rattle.commands.specs.Fields.{flagsOf}
 use Rattle.device.specs.declared.Setup.{Setup}
 use Rattle.dispatcher.specs.Answers.{reply, restart}
-use Rattle.dispatcher.specs.Handling.{Held, Obeyed, loaded, handledOf}
+use Rattle.handler.specs.Handling.{Held, Obeyed, loaded, handledOf}
 use Rattle.dispatcher.specs.Dispatch.{headed, Spoken, spoken, replyOf, Ending, silent, spokenTo, answeredOf, obeyedOf, laid, chosen}
 
 module _ (cap status len wait : ℕ) (f room : List ℕ) (due : Bool) (s : Sent) (k : s ≡ sendOf cap (headed status len f) room) where

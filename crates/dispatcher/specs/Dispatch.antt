@@ -12,9 +12,10 @@ use Rattle.tinyboot_protocol.specs.Sent.{Sent, sendOf}
 use Rattle.tinyboot_core.specs.Select.{Choice, selectOf}
 use Rattle.commands.specs.Fields.{flagsOf, Ok}
 use Rattle.device.specs.declared.Setup.{Setup}
+use Rattle.dispatcher.specs.declared.Answer.{Answer}
 use Rattle.dispatcher.specs.declared.dispatch.Dispatched.{Dispatched}
 use Rattle.dispatcher.specs.Answers.{Told, mute, reply, restart, toldOf}
-use Rattle.dispatcher.specs.Handling.{Held, held, Obeyed, bare, loaded, handledOf}
+use Rattle.handler.specs.Handling.{Held, held, Obeyed, bare, loaded, handledOf}
 
 -- the reply's header: command, address and flags are kept (01, Frame bytes, a reply)
 abbrev pub headed : ℕ → ℕ → List ℕ → List ℕ
@@ -52,6 +53,9 @@ pub record Ending : Type 0 where
 abbrev pub endedTo : Dispatched → List ℕ → List ℕ → List ℕ → List ℕ → List ℕ → Ending
 endedTo r f p flash meta room =
     record { told = toldOf (r .answer); left = held f p (r .fill) (r .next) flash meta; selected = r .selected; closed = r .closed; room = room }
+
+abbrev pub mutedTo : ℕ → ℕ → Bool → Dispatched
+mutedTo fill next selected = record { answer = Answer.Silent; fill = fill; next = next; selected = selected; closed = false }
 
 abbrev pub silent : Held → Bool → List ℕ → Ending
 silent h selected room = record { told = mute 1; left = h; selected = selected; closed = false; room = room }

@@ -2,9 +2,8 @@
 // answers.
 
 use crate::Answer;
-use crate::handle;
-use crate::handle::Handled;
 use device::Setup;
+use handler::Handled;
 use tinyboot_core::addressing;
 use tinyboot_core::addressing::MAX_UID_LEN;
 use tinyboot_core::addressing::Selected;
@@ -23,9 +22,9 @@ ghost use Rattle.tinyboot_protocol.specs.Names.{statusNumber};
 ghost use Rattle.tinyboot_protocol.specs.Reading.{cmdOf};
 ghost use Rattle.tinyboot_core.specs.Select.{selectOf};
 ghost use Rattle.commands.specs.Fields.{flagsOf};
-ghost use Rattle.dispatcher.specs.Answers.{mute as muteTold, toldOf};
-ghost use Rattle.dispatcher.specs.Handling.{held, handledTo};
-ghost use Rattle.dispatcher.specs.Dispatch.{headed, spoken, replyOf, endedTo, silent, answeredOf, obeyedOf, unaddressedOf, chosen, addressedOf, dispatchOf};
+ghost use Rattle.dispatcher.specs.Answers.{toldOf};
+ghost use Rattle.handler.specs.Handling.{held, handledTo};
+ghost use Rattle.dispatcher.specs.Dispatch.{headed, spoken, replyOf, endedTo, mutedTo, answeredOf, obeyedOf, unaddressedOf, chosen, addressedOf, dispatchOf};
 
 // What the end of a frame leaves beside what it is lent.
 pub struct Dispatched {
@@ -80,7 +79,7 @@ fn reply(h: Handled, wait: u8, f: &mut [u8; 64], room: &mut [u8]) -> Answer
 }
 
 fn mute(fill: usize, next: u32, selected: bool) -> Dispatched
-    ensures { λ r. ⌜ (toldOf (r .answer) ≡ muteTold 1) × (r .fill ≡ fill) × (r .next ≡ next) × (r .selected ≡ selected) × (r .closed ≡ false) ⌝ }
+    ensures { λ r. ⌜ r ≡ mutedTo fill next selected ⌝ }
 {
     Dispatched {
         answer: Answer::Silent,
@@ -105,10 +104,10 @@ fn obey(
     ensures { λ r. ⌜ handledTo r (now (f .exit)) (now (page .exit)) (now (flash .exit)) (now (meta .exit)) ≡
         obeyedOf 52 64 setup (statusNumber status) (held (now (f .entry)) (now (page .entry)) fill next (now (flash .entry)) (now (meta .entry))) ⌝ }
 {
-    if handle::is_ok(status) {
-        return handle::handle(setup, f, page, fill, next, flash, meta);
+    if handler::is_ok(status) {
+        return handler::handle(setup, f, page, fill, next, flash, meta);
     }
-    handle::bare(status, fill, next)
+    handler::bare(status, fill, next)
 }
 
 // What is not silent.
@@ -162,7 +161,7 @@ fn select(setup: Setup, f: &mut [u8; 64], fill: usize, next: u32, room: &mut [u8
     let choice = addressing::select(id, setup.id_len, f);
     match choice {
         Selected::Yes { wait } => {
-            let h = handle::loaded(id_len(setup), fill, next);
+            let h = handler::loaded(id_len(setup), fill, next);
             let a = reply(h, wait, f, room);
             Dispatched {
                 answer: a,
@@ -225,7 +224,7 @@ fn addressed(
     ensures { λ r. ⌜ endedTo r (now (f .exit)) (now (page .exit)) (now (flash .exit)) (now (meta .exit)) (now (room .exit)) ≡
         addressedOf 52 64 setup (statusNumber status) (held (now (f .entry)) (now (page .entry)) fill next (now (flash .entry)) (now (meta .entry))) selected (now (room .entry)) ⌝ }
 {
-    if !handle::is_ok(status) {
+    if !handler::is_ok(status) {
         return mute(fill, next, selected);
     }
     if is_select(f) {

@@ -14,7 +14,7 @@ use Rattle.tinyboot_protocol.specs.Stored.{framed, begun, ready, Read, outOf, w
 use Rattle.device.specs.declared.Setup.{Setup}
 use Rattle.device.specs.declared.State.{State}
 use Rattle.device.specs.Refusals.{setUp, wellFormed, runFits, lengthsOf, refusalOf}
-use Rattle.dispatcher.specs.Handling.{held}
+use Rattle.handler.specs.Handling.{held}
 use Rattle.dispatcher.specs.Dispatch.{Ending, dispatchOf}
 use Rattle.feed.specs.Feed.{Called, stateWith, quietBy, endedBy, afterRead, takenOf, refusedBy, fedOf, refusalFor}
 

@@ -19,7 +19,7 @@ use Rattle.device.specs.declared.Setup.{Setup}
 use Rattle.device.specs.Refusals.{eraseFits, capacityFits, setUp, runFits, wellFormed, lengthsOf, refusalOf}
 use Rattle.device.specs.Starts.{newState}
 use Rattle.dispatcher.specs.Answers.{Told, mute, reply, restart}
-use Rattle.dispatcher.specs.Handling.{handledOf}
+use Rattle.handler.specs.Handling.{handledOf}
 use Rattle.dispatcher.specs.Dispatch.{replyOf, answeredOf, obeyedOf, unaddressedOf, addressedOf, dispatchOf}
 use Rattle.feed.specs.Feed.{Called, afterRead, takenOf, fedOf}
 

@@ -13,7 +13,7 @@ use Rattle.device.specs.Refusals.{refusalOf}
 use Rattle.feed.specs.declared.Fed.{Fed}
 use Rattle.feed.specs.declared.Passed.{Passed}
 use Rattle.dispatcher.specs.Answers.{Told, mute, toldOf}
-use Rattle.dispatcher.specs.Handling.{held}
+use Rattle.handler.specs.Handling.{held}
 use Rattle.dispatcher.specs.Dispatch.{Ending, dispatchOf}
 
 -- all that a call leaves

@@ -212,7 +212,7 @@ pub fn feed(
     let next = s.next;
     let selected = s.selected;
     let closed = s.closed;
-    let p = feed_in(
+    let r = feed_in(
         setup,
         &mut frame.bytes,
         got,
@@ -226,16 +226,16 @@ pub fn feed(
         meta,
         reply,
     );
-    frame.got = p.got;
+    frame.got = r.got;
     s.frame = frame;
-    s.fill = p.fill;
-    s.next = p.next;
-    s.selected = p.selected;
-    s.closed = p.closed;
-    let answer = p.answer;
+    s.fill = r.fill;
+    s.next = r.next;
+    s.selected = r.selected;
+    s.closed = r.closed;
+    let answer = r.answer;
     Fed {
         state: s,
-        taken: p.taken,
+        taken: r.taken,
         answer: answer,
     }
 }

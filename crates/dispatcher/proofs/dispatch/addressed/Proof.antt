@@ -16,7 +16,7 @@ mute-requires c κs = search needs
 returns : tie.Need-returns
 unfolding addressedOf
 returns c = let r = c .mute .ensures in
-    simp (sym (c .before .before .is-ok .ensures) ∙ not-true _ (c .before .if1 .taken), r .0, r .1, r .2, r .3, r .4)
+    simp (sym (c .before .before .is-ok .ensures) ∙ not-true _ (c .before .if1 .taken), r)
 
 is-select-requires : tie.Need-is-select-requires
 is-select-requires c κs = search needs
@@ -60,7 +60,7 @@ mute-requires-2 c κs = search needs
 returns-4 : tie.Need-returns-4
 unfolding addressedOf
 returns-4 c = let r = c .mute2 .ensures in
-    simp (sym (c .before .before .before .before .before .before .is-ok .ensures) ∙ not-false _ (c .before .before .before .before .before .if1 .left), sym (c .before .before .before .is-select .ensures) ∙ c .before .before .if2 .left, c .before .if3 .left, r .0, r .1, r .2, r .3, r .4)
+    simp (sym (c .before .before .before .before .before .before .is-ok .ensures) ∙ not-false _ (c .before .before .before .before .before .if1 .left), sym (c .before .before .before .is-select .ensures) ∙ c .before .before .if2 .left, c .before .if3 .left, r)
 
 pub addressed-spec : {M : Type 1} → statement M
 addressed-spec =

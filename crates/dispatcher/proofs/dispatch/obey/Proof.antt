@@ -27,7 +27,7 @@ bare-requires c κs = search needs
 returns-2 : tie.Need-returns-2
 unfolding obeyedOf
 returns-2 c = let r = c .bare .ensures in
-    simp (sym (c .before .before .is-ok .ensures) ∙ c .before .if1 .left, r .0, r .1, r .2, r .3, r .4)
+    simp (sym (c .before .before .is-ok .ensures) ∙ c .before .if1 .left, r)
 
 pub obey-spec : {M : Type 1} → statement M
 obey-spec =

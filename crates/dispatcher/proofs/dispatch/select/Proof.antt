@@ -3,7 +3,7 @@ use mathlib.Core.Bool.{true}
 use Rattle.tinyboot_core.specs.declared.addressing.Selected.{Selected}
 use Rattle.dispatcher.proofs.Replying.{answered, chosen-replied, chosen-silent}
 use Rattle.dispatcher.specs.Dispatch.{laid}
-use Rattle.dispatcher.specs.Handling.{held, loaded}
+use Rattle.handler.specs.Handling.{held, loaded}
 use mathlib.Core.Path.{refl, ap, _∙_}
 use native.Mathlib.Omega.{arith}
 use borrow.Author.Needs.{needs}
@@ -41,13 +41,13 @@ returns c = let a = c .before .before .before .before .before .before .before .b
     let n = length (take (a .setup .«id_len») (a .setup .id)) in
     λ p flash meta.
     chosen-replied 52 n (held (a .f .now) p (a .fill) (a .next) flash meta) (a .room .now) _ _ e refl _
-    (answered 52 _ _ (loaded n (held _ p (a .fill) (a .next) flash meta)) refl true (a .room .now) _ (rw (l .0, l .1, l .2, c .before .before .before .before .before .before .id-len .ensures) at (c .before .before .reply .ensures)))
+    (answered 52 _ _ (loaded n (held _ p (a .fill) (a .next) flash meta)) refl true (a .room .now) _ (rw (l, c .before .before .before .before .before .before .id-len .ensures) at (c .before .before .reply .ensures)))
 
 returns-2 : tie.Need-returns-2
 returns-2 c = let a = c .before .before .before .before .before .before .before .args in
     let r = c .mute .ensures in
     λ p flash meta.
-    rw (r .0, r .1, r .2, r .3, r .4)
+    rw (r)
     (chosen-silent 52 _ (held (a .f .now) p (a .fill) (a .next) flash meta) (a .room .now) _ _ (rw (c .before .enum-told .given .1) at (c .before .before .before .select .ensures)) refl)
 
 pub select-spec : {M : Type 1} → statement M

@@ -14,7 +14,7 @@ mute-requires c κs = search needs
 returns : tie.Need-returns
 unfolding unaddressedOf
 returns c = let r = c .mute .ensures in
-    simp (sym (c .before .before .is-request .ensures) ∙ c .before .if1 .taken, r .0, r .1, r .2, r .3, r .4)
+    simp (sym (c .before .before .is-request .ensures) ∙ c .before .if1 .taken, r)
 
 answer-requires : tie.Need-answer-requires
 answer-requires c κs = search needs

@@ -13,13 +13,12 @@ use tinyboot_protocol::Status;
 use tinyboot_protocol::frame::InfoData;
 use tinyboot_protocol::le;
 ghost use mathlib.Core.Path.{_≡_};
-ghost use mathlib.Core.Bool.{false};
 ghost use mathlib.Core.List.{List};
 ghost use Prim.Native.Nat.{ℕ};
 ghost use lib.Dec.{eqb};
 ghost use Rattle.tinyboot_protocol.specs.Names.{statusNumber, cmdNumber};
 ghost use Rattle.commands.specs.Verify.{verifyOf};
-ghost use Rattle.dispatcher.specs.Handling.{held, handledTo, handledBy, handledOf, crcLaid, verified};
+ghost use Rattle.handler.specs.Handling.{held, bareTo, loadedTo, restartTo, handledTo, handledBy, handledOf, crcLaid, verified};
 
 // What a command leaves beside what it is lent: the reply's status and length, whether a restart is due after it, and how far the run of writes is.
 pub struct Handled {
@@ -39,7 +38,7 @@ pub fn is_ok(status: Status) -> bool
 
 // A reply of no payload.
 pub fn bare(status: Status, fill: usize, next: u32) -> Handled
-    ensures { λ r. ⌜ (statusNumber (r .status) ≡ statusNumber status) × (r .len ≡ 0) × (r .restart ≡ false) × (r .fill ≡ fill) × (r .next ≡ next) ⌝ }
+    ensures { λ r. ⌜ r ≡ bareTo status fill next ⌝ }
 {
     Handled {
         status: status,
@@ -52,7 +51,7 @@ pub fn bare(status: Status, fill: usize, next: u32) -> Handled
 
 // A reply whose payload of so many bytes stands in the data area.
 pub fn loaded(len: u16, fill: usize, next: u32) -> Handled
-    ensures { λ r. ⌜ (statusNumber (r .status) ≡ 1) × (r .len ≡ len) × (r .restart ≡ false) × (r .fill ≡ fill) × (r .next ≡ next) ⌝ }
+    ensures { λ r. ⌜ r ≡ loadedTo len fill next ⌝ }
 {
     Handled {
         status: Status::Ok,
@@ -65,7 +64,7 @@ pub fn loaded(len: u16, fill: usize, next: u32) -> Handled
 
 // A Reset's reply: an accepted one restarts.
 fn restart(status: Status, fill: usize, next: u32) -> Handled
-    ensures { λ r. ⌜ (statusNumber (r .status) ≡ statusNumber status) × (r .len ≡ 0) × (r .restart ≡ eqb (statusNumber status) 1) × (r .fill ≡ fill) × (r .next ≡ next) ⌝ }
+    ensures { λ r. ⌜ r ≡ restartTo status fill next ⌝ }
 {
     Handled {
         status: status,

@@ -1,9 +1,9 @@
-use Rattle.dispatcher.specs.Handling.{held, erased, wrote, resets}
+use Rattle.handler.specs.Handling.{held, erased, wrote, resets}
 use mathlib.Core.Path.{refl, ap}
 use native.Mathlib.Omega.{arith}
 use borrow.Author.Needs.{needs}
-use Rattle.dispatcher.proofs.handle.carry.Statement.{statement}
-use Rattle.dispatcher.proofs.handle.carry.Tie as tie
+use Rattle.handler.proofs.carry.Statement.{statement}
+use Rattle.handler.proofs.carry.Tie as tie
 
 enum-told : tie.Need-enum-told
 enum-told c = search needs
@@ -61,7 +61,7 @@ same-length-2 c = search needs
 
 returns : tie.Need-returns
 returns c = let r = c .loaded .ensures in
-    rw (r .0, r .1, r .2, r .3, r .4, c .before .before .before .before .before .enum-told .given .1, c .before .cmd-info .ensures) refl
+    rw (r, c .before .before .before .before .before .enum-told .given .1, c .before .cmd-info .ensures) refl
 
 same-length-3 : tie.Need-same-length-3
 same-length-3 c = search needs
@@ -72,7 +72,7 @@ same-length-4 c = search needs
 returns-2 : tie.Need-returns-2
 returns-2 c = let a = c .before .before .before .before .before .before .before .before .before .before .before .before .before .args in
     let r = c .bare .ensures in
-    rw (r .0, r .1, r .2, r .3, r .4, c .before .before .before .before .before .before .before .before .before .enum-told2 .given .1) (ap (erased (held (a .f .now) (a .page .now) (a .fill) (a .next) (a .flash .now) (a .meta .now))) (c .before .before .before .before .before .cmd-erase .ensures))
+    rw (r, c .before .before .before .before .before .before .before .before .before .enum-told2 .given .1) (ap (erased (held (a .f .now) (a .page .now) (a .fill) (a .next) (a .flash .now) (a .meta .now))) (c .before .before .before .before .before .cmd-erase .ensures))
 
 same-length-5 : tie.Need-same-length-5
 same-length-5 c = search needs
@@ -83,7 +83,7 @@ same-length-6 c = search needs
 returns-3 : tie.Need-returns-3
 returns-3 c = let a = c .before .before .before .before .before .before .before .before .before .before .before .before .args in
     let r = c .bare2 .ensures in
-    rw (r .0, r .1, r .2, r .3, r .4, c .before .before .before .before .before .before .before .before .enum-told3 .given .1) (ap (wrote (held (a .f .now) (a .page .now) (a .fill) (a .next) (a .flash .now) (a .meta .now))) (c .before .before .before .cmd-write .ensures))
+    rw (r, c .before .before .before .before .before .before .before .before .enum-told3 .given .1) (ap (wrote (held (a .f .now) (a .page .now) (a .fill) (a .next) (a .flash .now) (a .meta .now))) (c .before .before .before .cmd-write .ensures))
 
 same-length-7 : tie.Need-same-length-7
 same-length-7 c = search needs
@@ -104,11 +104,11 @@ same-length-10 c = search needs
 returns-5 : tie.Need-returns-5
 returns-5 c = let a = c .before .before .before .before .before .before .before .before .before .before .before .args in
     let r = c .restart .ensures in
-    rw (r .0, r .1, r .2, r .3, r .4, c .before .before .before .before .before .before .before .enum-told5 .given .1) (ap (resets (held (a .f .now) (a .page .now) (a .fill) (a .next) (a .flash .now) (a .meta .now))) (c .before .before .before .cmd-reset .ensures))
+    rw (r, c .before .before .before .before .before .before .before .enum-told5 .given .1) (ap (resets (held (a .f .now) (a .page .now) (a .fill) (a .next) (a .flash .now) (a .meta .now))) (c .before .before .before .cmd-reset .ensures))
 
 returns-6 : tie.Need-returns-6
 returns-6 c = let r = c .bare3 .ensures in
-    rw (r .0, r .1, r .2, r .3, r .4, c .before .enum-told6 .given .1) refl
+    rw (r, c .before .enum-told6 .given .1) refl
 
 pub carry-spec : {M : Type 1} → statement M
 carry-spec =

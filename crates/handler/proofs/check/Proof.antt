@@ -1,12 +1,12 @@
-use Rattle.dispatcher.proofs.Obeying.{verify-replied, verify-refused}
+use Rattle.handler.proofs.Obeying.{verify-replied, verify-refused}
 use Rattle.tinyboot_protocol.specs.Names.{statusNumber}
-use Rattle.dispatcher.specs.Handling.{held}
+use Rattle.handler.specs.Handling.{held}
 use Rattle.commands.specs.Verify.{verifiedTo}
 use mathlib.Core.Path.{sym, _∙_}
 use native.Mathlib.Omega.{arith}
 use borrow.Author.Needs.{needs}
-use Rattle.dispatcher.proofs.handle.check.Statement.{statement}
-use Rattle.dispatcher.proofs.handle.check.Tie as tie
+use Rattle.handler.proofs.check.Statement.{statement}
+use Rattle.handler.proofs.check.Tie as tie
 
 cmd-verify-requires : tie.Need-cmd-verify-requires
 cmd-verify-requires c κs = search needs
@@ -29,7 +29,7 @@ returns c = let i = c .before .before .before .before in
     let a = i .before .before .before .before .before .before .before .before .args in
     let r = c .loaded .ensures in
     λ p.
-    rw (r .0, r .1, r .2, r .3, r .4, c .before .lay-crc .ensures)
+    rw (r, c .before .lay-crc .ensures)
     (verify-replied (held (a .f .now) p (a .fill) (a .next) (a .flash .now) (a .meta .now)) _ _ (v .ensures) (sym (i .is-ok .ensures) ∙ c .before .before .before .if1 .taken))
 
 bare-requires : tie.Need-bare-requires
@@ -44,7 +44,7 @@ returns-2 c = let i = c .before .before in
     let a = i .before .before .before .before .before .before .before .before .args in
     let r = c .bare .ensures in
     λ p.
-    rw (r .0, r .1, r .2, r .3, r .4)
+    rw (r)
     (verify-refused (held (a .f .now) p (a .fill) (a .next) (a .flash .now) (a .meta .now)) _ _ (v .ensures) (sym (i .is-ok .ensures) ∙ c .before .if1 .left))
 
 pub check-spec : {M : Type 1} → statement M

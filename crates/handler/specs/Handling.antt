@@ -7,6 +7,7 @@ use lib.Dec.{eqb}
 use Rattle.laws.specs.Pick.{pick}
 use Rattle.tinyboot_protocol.specs.Reading.{cmdOf}
 use Rattle.tinyboot_protocol.specs.Names.{statusNumber}
+use Rattle.tinyboot_protocol.specs.declared.Status.{Status}
 use Rattle.commands.specs.Fields.{Ok, Unsupported}
 use Rattle.commands.specs.Erase.{Erased, eraseOf}
 use Rattle.commands.specs.Write.{Wrote, cmdWriteOf}
@@ -14,7 +15,7 @@ use Rattle.commands.specs.Verify.{Verified, verifyOf}
 use Rattle.commands.specs.Info.{infoOf, infoLaid}
 use Rattle.commands.specs.Reset.{Resets, resetOf}
 use Rattle.device.specs.declared.Setup.{Setup}
-use Rattle.dispatcher.specs.declared.handle.Handled.{Handled}
+use Rattle.handler.specs.declared.Handled.{Handled}
 
 -- what a command finds and leaves: the frame's bytes, the run of writes (its page, how much of that is filled, the next address), the flash, the record
 pub record Held : Type 0 where
@@ -43,7 +44,17 @@ bare status h = record { status = status; len = 0; restart = false; left = h }
 abbrev pub loaded : ℕ → Held → Obeyed
 loaded len h = record { status = Ok; len = len; restart = false; left = h }
 
--- the code's struct, with what it was lent as it stands afterwards
+-- the code's struct of such replies, and of a Reset's
+abbrev pub bareTo : Status → ℕ → ℕ → Handled
+bareTo status fill next = record { status = status; len = 0; restart = false; fill = fill; next = next }
+
+abbrev pub loadedTo : ℕ → ℕ → ℕ → Handled
+loadedTo len fill next = record { status = Status.Ok; len = len; restart = false; fill = fill; next = next }
+
+abbrev pub restartTo : Status → ℕ → ℕ → Handled
+restartTo status fill next = record { status = status; len = 0; restart = eqb (statusNumber status) Ok; fill = fill; next = next }
+
+-- that struct, with what it was lent as it stands afterwards
 abbrev pub handledTo : Handled → List ℕ → List ℕ → List ℕ → List ℕ → Obeyed
 handledTo r f p flash meta =
     record { status = statusNumber (r .status); len = r .len; restart = r .restart; left = held f p (r .fill) (r .next) flash meta }

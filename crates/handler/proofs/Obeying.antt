@@ -12,7 +12,7 @@ use Rattle.tinyboot_protocol.specs.Names.{cmdLookup}
 use Rattle.commands.specs.Fields.{Unsupported}
 use Rattle.commands.specs.Verify.{Verified}
 use Rattle.device.specs.declared.Setup.{Setup}
-use Rattle.dispatcher.specs.Handling.{Held, held, Obeyed, bare, loaded, crcLaid, verified, handledBy}
+use Rattle.handler.specs.Handling.{Held, held, Obeyed, bare, loaded, crcLaid, verified, handledBy}
 
 -- a number that is found is that of its command
 pub found : (n b : ℕ) → some n ≡ cmdLookup b → n ≡ b

@@ -1,11 +1,11 @@
 use lib.ListN.{getD}
-use Rattle.dispatcher.proofs.Obeying.{found, unfound}
-use Rattle.dispatcher.specs.Handling.{held, handledOf}
+use Rattle.handler.proofs.Obeying.{found, unfound}
+use Rattle.handler.specs.Handling.{held, handledOf}
 use Rattle.tinyboot_protocol.specs.Names.{cmdNumber}
 use native.Mathlib.Omega.{arith}
 use borrow.Author.Needs.{needs}
-use Rattle.dispatcher.proofs.handle.handle.Statement.{statement}
-use Rattle.dispatcher.proofs.handle.handle.Tie as tie
+use Rattle.handler.proofs.handle.Statement.{statement}
+use Rattle.handler.proofs.handle.Tie as tie
 
 element-copy-out-from-u8 : tie.Need-element-copy-out-from-u8
 element-copy-out-from-u8 c = search needs
@@ -26,7 +26,7 @@ returns : tie.Need-returns
 unfolding handledOf
 returns c = let a = c .before .before .before .before .before .before .before .args in
     let r = c .bare .ensures in
-    rw (r .0, r .1, r .2, r .3, r .4)
+    rw (r)
     (unfound (getD (a .f .now) 2 0) 52 64 (a .setup) (held (a .f .now) (a .page .now) (a .fill) (a .next) (a .flash .now) (a .meta .now)) (rw (c .before .enum-told .given .1) at (c .before .before .before .from-u8 .ensures)))
 
 carry-requires : tie.Need-carry-requires

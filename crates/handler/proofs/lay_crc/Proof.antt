@@ -1,8 +1,8 @@
 use mathlib.Core.Path.{refl}
 use native.Mathlib.Omega.{arith}
 use borrow.Author.Needs.{needs}
-use Rattle.dispatcher.proofs.handle.lay_crc.Statement.{statement}
-use Rattle.dispatcher.proofs.handle.lay_crc.Tie as tie
+use Rattle.handler.proofs.lay_crc.Statement.{statement}
+use Rattle.handler.proofs.lay_crc.Tie as tie
 
 bytes16-requires : tie.Need-bytes16-requires
 bytes16-requires c κs = search needs

@@ -2,8 +2,8 @@ use mathlib.Core.Path.{ap}
 use lib.Dec.{eqb}
 use native.Mathlib.Omega.{arith}
 use borrow.Author.Needs.{needs}
-use Rattle.dispatcher.proofs.handle.is_ok.Statement.{statement}
-use Rattle.dispatcher.proofs.handle.is_ok.Tie as tie
+use Rattle.handler.proofs.is_ok.Statement.{statement}
+use Rattle.handler.proofs.is_ok.Tie as tie
 
 to-u8-requires : tie.Need-to-u8-requires
 to-u8-requires c κs = search needs
