@@ -12,8 +12,10 @@ use crate::starting;
 use platform::cells::byte_at;
 use platform::cells::first;
 use platform::cells::lay;
+ghost use Prim.Native.Nat.{_≤_};
+ghost use lib.ListN.{length};
 
-// The bytes past the first so many.
+// The bytes past the first so many, which a line within its limits has.
 fn after<'a>(s: &'a [u8], n: usize) -> &'a [u8] {
     if n <= s.len() {
         return &s[n..];
@@ -39,7 +41,7 @@ fn say(bench: Bench, text: &[u8], out: &mut [u8]) -> Bench {
     bench
 }
 
-// The lines that change a number: what is lent, or the state.
+// The lines that change a number: what is lent (`n`, `c`, `m`), or one of the state (`p`).
 fn number(bench: Bench, letter: u8, bytes: &[u8]) -> Bench {
     let mut bench = bench;
     match letter {
@@ -59,7 +61,7 @@ fn number(bench: Bench, letter: u8, bytes: &[u8]) -> Bench {
     }
 }
 
-// The lines that store bytes.
+// The lines that store bytes: `f`, `q` and `r`.
 fn store(letter: u8, bytes: &[u8], f: &mut [u8; 64], flash: &mut [u8], record: &mut [u8]) {
     match letter {
         b'f' => module::poke(flash, numbers::four(bytes, 0) as usize, after(bytes, 4)),
@@ -68,7 +70,7 @@ fn store(letter: u8, bytes: &[u8], f: &mut [u8; 64], flash: &mut [u8], record: &
     }
 }
 
-// The lines that the module's calls answer.
+// A new bench, and the lines that the module's calls answer: `b`, `o` and `x`.
 fn drive(
     bench: Bench,
     letter: u8,
@@ -142,7 +144,55 @@ fn obey(
     refuse(bench, number, out)
 }
 
-// The lines of the script; what is left is the place in the output. The lines are counted, and the count ends the loop where no input does.
+// The bench after a line, with what is unread of the block, and whether that was the last.
+struct Turned {
+    bench: Bench,
+    at: usize,
+    end: usize,
+    last: bool,
+}
+
+// What has been printed goes out before more input is waited for.
+fn shown(bench: Bench, waits: bool, out: &[u8]) -> Bench {
+    let mut bench = bench;
+    if waits {
+        show::flush(out, bench.out);
+        bench.out = 0;
+    }
+    bench
+}
+
+// Line n, read and obeyed.
+fn turn(
+    bench: Bench,
+    n: u64,
+    block: &mut [u8],
+    at: usize,
+    end: usize,
+    bytes: &mut [u8],
+    f: &mut [u8; 64],
+    page: &mut [u8; 64],
+    flash: &mut [u8],
+    record: &mut [u8],
+    room: &mut [u8],
+    out: &mut [u8],
+) -> Turned
+    requires { ⌜ (at ≤ end) × (end ≤ length (now block)) ⌝ }
+    ensures { λ r. ⌜ (r .at ≤ r .end) × (r .end ≤ length (now (block .exit))) ⌝ }
+{
+    let t = input::next(block, at, end, bytes);
+    let line = t.line;
+    let after = obey(bench, line, n, bytes, f, page, flash, record, room, out);
+    let bench = shown(after, t.at == t.end, out);
+    Turned {
+        bench: bench,
+        at: t.at,
+        end: t.end,
+        last: t.last,
+    }
+}
+
+// The lines of the script, and the place in the output after them. They are counted, and the count ends the loop where no input does.
 fn lines(
     bench: Bench,
     block: &mut [u8],
@@ -160,14 +210,12 @@ fn lines(
     let mut number: u64 = 0;
     while number < u64::MAX {
         number += 1;
-        let t = input::next(block, at, end, bytes);
-        at = t.at;
-        end = t.end;
-        let line = t.line;
-        bench = obey(
+        let t = turn(
             bench,
-            line,
             number,
+            block,
+            at,
+            end,
             bytes,
             f,
             page,
@@ -176,6 +224,9 @@ fn lines(
             room,
             out,
         );
+        bench = t.bench;
+        at = t.at;
+        end = t.end;
         if t.last {
             return bench.out;
         }

@@ -14,6 +14,10 @@ abbrev μ-loop : tie.MeasureT-loop
 μ-loop bytes f₀ page₀ flash₀ record₀ room₀ out₀ bench₀ at₀ f page flash «record» room out bench at =
     length bytes - at
 
+-- the loop's head, from where a call has been made
+abbrev top : tie.After-bench Inv-loop μ-loop → tie.At-loop Inv-loop μ-loop
+top c = c .before .before .before .before .before .before .before .before .before .before .before .before .before .before .before .before .before
+
 loop-holds : tie.Need-loop-holds Inv-loop μ-loop
 loop-holds c = search needs
 
@@ -34,14 +38,14 @@ sub-if3 c = search needs
 
 add-at : tie.Need-add-at Inv-loop μ-loop
 add-at c =
-    omega (arith, c .before .before .before .before .before .before .before .before .before .before .before .before .before .before .before .before .before .before .before .before .before .loop .inv .0, c .before .before .before .before .before .before .before .before .before .before .before .before .before .before .before .before .before .before .before .before .before .before .before .before .before .before .before .good)
+    omega (arith, top (c .before .before .before .before) .loop .inv .0, c .before .before .before .before .before .before .before .before .before .before .before .before .before .before .before .before .before .before .before .before .before .before .before .before .before .before .before .good)
 
 loop-less : tie.Need-loop-less Inv-loop μ-loop
 loop-less c = search needs
 
 loop-again : tie.Need-loop-again Inv-loop μ-loop
 loop-again c =
-    let i = c .before .before .before .before .before .before .before .before .before .before .before .before .before .before .before .before .before .before .before .before .before .loop .inv in (
+    let i = top (c .before .before .before .before) .loop .inv in (
       omega (arith, i .0),
       c .before .before .before .before .before .before .before .before .before .before .before .before .flash .given ∙ i .1,
       c .before .before .before .before .before .before .before .before .before .before .«record» .given ∙ i .2,
@@ -66,19 +70,19 @@ returns c = search needs
 
 same-length-5 : tie.Need-same-length-5 Inv-loop μ-loop
 same-length-5 c =
-    c .before .before .before .before .before .before .before .before .before .before .before .before .flash .given ∙ c .before .before .before .before .before .before .before .before .before .before .before .before .before .before .before .before .before .before .before .before .before .loop .inv .1
+    c .before .before .before .before .before .before .before .before .before .before .before .before .flash .given ∙ top (c .before .before .before .before) .loop .inv .1
 
 same-length-6 : tie.Need-same-length-6 Inv-loop μ-loop
 same-length-6 c =
-    c .before .before .before .before .before .before .before .before .before .before .«record» .given ∙ c .before .before .before .before .before .before .before .before .before .before .before .before .before .before .before .before .before .before .before .before .before .loop .inv .2
+    c .before .before .before .before .before .before .before .before .before .before .«record» .given ∙ top (c .before .before .before .before) .loop .inv .2
 
 same-length-7 : tie.Need-same-length-7 Inv-loop μ-loop
 same-length-7 c =
-    c .before .before .before .before .before .before .before .before .room .given ∙ c .before .before .before .before .before .before .before .before .before .before .before .before .before .before .before .before .before .before .before .before .before .loop .inv .3
+    c .before .before .before .before .before .before .before .before .room .given ∙ top (c .before .before .before .before) .loop .inv .3
 
 same-length-8 : tie.Need-same-length-8 Inv-loop μ-loop
 same-length-8 c =
-    c .before .before .before .before .before .before .out .given ∙ c .before .before .before .before .before .before .before .before .before .before .before .before .before .before .before .before .before .before .before .before .before .loop .inv .4
+    c .before .before .before .before .before .before .out .given ∙ top (c .before .before .before .before) .loop .inv .4
 
 returns-2 : tie.Need-returns-2 Inv-loop μ-loop
 returns-2 c = search needs

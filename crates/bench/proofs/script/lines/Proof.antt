@@ -1,3 +1,4 @@
+-- Every buffer keeps its length, and what is unread lies in the block.
 use Prim.Native.Nat.{_≤_, _-_, _^_}
 use mathlib.Core.Path.{_≡_, _∙_}
 use lib.ListN.{length}
@@ -14,61 +15,56 @@ abbrev μ-loop : tie.MeasureT-loop
 μ-loop block₀ bytes₀ f₀ page₀ flash₀ record₀ room₀ out₀ bench₀ at₀ end₀ number₀ block bytes f page flash «record» room out bench at end number =
     2 ^ 64 - number
 
+-- the loop's test, from where a line has been obeyed
+abbrev top : tie.After-bench Inv-loop μ-loop → tie.At-loop Inv-loop μ-loop
+top c = c .before .before .before .before .before .before .before .before .before .before .before .before .before .before .before .before .before .before .before .before .before .before .before
+
 loop-holds : tie.Need-loop-holds Inv-loop μ-loop
 loop-holds c = search needs
 
 add-number : tie.Need-add-number Inv-loop μ-loop
 add-number c = search needs
 
-next-requires : tie.Need-next-requires Inv-loop μ-loop
-next-requires c κs = (c .before .before .before .loop .inv .0, c .before .before .before .loop .inv .1)
-
-obey-requires : tie.Need-obey-requires Inv-loop μ-loop
-obey-requires c κs = search needs
+turn-requires : tie.Need-turn-requires Inv-loop μ-loop
+turn-requires c κs = (c .before .before .before .before .before .before .before .before .before .loop .inv .0, c .before .before .before .before .before .before .before .before .before .loop .inv .1)
 
 same-length : tie.Need-same-length Inv-loop μ-loop
-same-length c =
-    c .before .before .before .before .before .before .before .before .before .before .before .before .before .before .before .before .before .before .before .before .before .block .given ∙ c .before .before .before .before .before .before .before .before .before .before .before .before .before .before .before .before .before .before .before .before .before .before .before .before .before .before .loop .inv .2
+same-length c = c .before .before .before .before .before .before .before .before .before .before .before .before .before .block .given ∙ top (c .before) .loop .inv .2
 
 same-length-2 : tie.Need-same-length-2 Inv-loop μ-loop
-same-length-2 c =
-    c .before .before .before .before .before .before .before .before .before .before .before .before .before .before .before .before .before .before .before .bytes .given ∙ c .before .before .before .before .before .before .before .before .before .before .before .before .before .before .before .before .before .before .before .before .before .before .before .before .before .before .loop .inv .3
+same-length-2 c = c .before .before .before .before .before .before .before .before .before .before .before .bytes .given ∙ top (c .before) .loop .inv .3
 
 same-length-3 : tie.Need-same-length-3 Inv-loop μ-loop
-same-length-3 c =
-    c .before .before .before .before .before .before .before .before .flash .given ∙ c .before .before .before .before .before .before .before .before .before .before .before .before .before .before .before .before .before .before .before .before .before .before .before .before .before .before .loop .inv .4
+same-length-3 c = c .before .before .before .before .before .before .before .before .before .flash .given ∙ top (c .before) .loop .inv .4
 
 same-length-4 : tie.Need-same-length-4 Inv-loop μ-loop
-same-length-4 c =
-    c .before .before .before .before .before .before .«record» .given ∙ c .before .before .before .before .before .before .before .before .before .before .before .before .before .before .before .before .before .before .before .before .before .before .before .before .before .before .loop .inv .5
+same-length-4 c = c .before .before .before .before .before .before .before .«record» .given ∙ top (c .before) .loop .inv .5
 
 same-length-5 : tie.Need-same-length-5 Inv-loop μ-loop
-same-length-5 c =
-    c .before .before .before .before .room .given ∙ c .before .before .before .before .before .before .before .before .before .before .before .before .before .before .before .before .before .before .before .before .before .before .before .before .before .before .loop .inv .6
+same-length-5 c = c .before .before .before .before .before .room .given ∙ top (c .before) .loop .inv .6
 
 same-length-6 : tie.Need-same-length-6 Inv-loop μ-loop
-same-length-6 c =
-    c .before .before .out .given ∙ c .before .before .before .before .before .before .before .before .before .before .before .before .before .before .before .before .before .before .before .before .before .before .before .before .before .before .loop .inv .7
+same-length-6 c = c .before .before .before .out .given ∙ top (c .before) .loop .inv .7
 
 returns : tie.Need-returns Inv-loop μ-loop
 returns c = search needs
 
 loop-less : tie.Need-loop-less Inv-loop μ-loop
-loop-less c =
-    omega (arith, c .before .before .before .before .before .before .before .before .before .before .before .before .before .before .before .before .before .before .before .before .before .before .before .before .before .loop-test .taken)
+loop-less c = omega (arith, c .before .before .before .before .before .before .before .before .before .before .before .before .before .before .before .before .before .before .before .before .before .before .before .loop-test .taken)
 
 loop-again : tie.Need-loop-again Inv-loop μ-loop
 loop-again c =
-    let e = c .before .before .before .before .before .before .before .before .before .before .before .before .before .before .before .before .before .before .before .before .before .before .next .ensures in
-    let i = c .before .before .before .before .before .before .before .before .before .before .before .before .before .before .before .before .before .before .before .before .before .before .before .before .before .before .loop .inv in (
+    let t = c .before in
+    let e = t .before .before .before .before .before .before .before .before .before .before .before .before .before .turn .ensures in
+    let i = top t .loop .inv in (
       e .0,
       e .1,
-      c .before .before .before .before .before .before .before .before .before .before .before .before .before .before .before .before .before .before .before .before .before .block .given ∙ i .2,
-      c .before .before .before .before .before .before .before .before .before .before .before .before .before .before .before .before .before .before .before .bytes .given ∙ i .3,
-      c .before .before .before .before .before .before .before .before .flash .given ∙ i .4,
-      c .before .before .before .before .before .before .«record» .given ∙ i .5,
-      c .before .before .before .before .room .given ∙ i .6,
-      c .before .before .out .given ∙ i .7,
+      t .before .before .before .before .before .before .before .before .before .before .before .before .block .given ∙ i .2,
+      t .before .before .before .before .before .before .before .before .before .before .bytes .given ∙ i .3,
+      t .before .before .before .before .before .before .before .before .flash .given ∙ i .4,
+      t .before .before .before .before .before .before .«record» .given ∙ i .5,
+      t .before .before .before .before .room .given ∙ i .6,
+      t .before .before .out .given ∙ i .7,
     )
 
 same-length-7 : tie.Need-same-length-7 Inv-loop μ-loop
@@ -100,8 +96,7 @@ lines-spec =
     μ-loop
     loop-holds
     add-number
-    next-requires
-    obey-requires
+    turn-requires
     same-length
     same-length-2
     same-length-3
