@@ -4,6 +4,7 @@ use crate::module::Bench;
 use crate::show;
 use crate::starting;
 use dispatcher::Answer;
+use feed::Passed;
 use feed::feed_in;
 use platform::cells::first;
 use tinyboot_protocol::RunMode;
@@ -85,8 +86,8 @@ fn tell(out: &mut [u8], at: usize, said: Said, taken: usize, room: &[u8]) -> usi
     replied(out, at, first(room, said.len))
 }
 
-// One call, and its line.
-fn call(
+// The call, on what is lent.
+fn fed(
     bench: Bench,
     bytes: &[u8],
     f: &mut [u8; 64],
@@ -94,14 +95,12 @@ fn call(
     flash: &mut [u8],
     record: &mut [u8],
     room: &mut [u8],
-    out: &mut [u8],
-) -> Called {
-    let mut bench = bench;
+) -> Passed {
     let setup = bench.setup;
     let flash_len = module::lent(bench.flash, flash);
     let record_len = module::lent(bench.record, record);
     let room_len = module::lent(bench.room, room);
-    let p = feed_in(
+    feed_in(
         setup,
         f,
         bench.got,
@@ -114,7 +113,22 @@ fn call(
         &mut flash[..flash_len],
         &mut record[..record_len],
         &mut room[..room_len],
-    );
+    )
+}
+
+// One call, and its line.
+fn call(
+    bench: Bench,
+    bytes: &[u8],
+    f: &mut [u8; 64],
+    page: &mut [u8; 64],
+    flash: &mut [u8],
+    record: &mut [u8],
+    room: &mut [u8],
+    out: &mut [u8],
+) -> Called {
+    let mut bench = bench;
+    let p = fed(bench, bytes, f, page, flash, record, room);
     let answer = p.answer;
     let s = numbers_of(answer);
     let at = tell(out, bench.out, s, p.taken, room);
