@@ -7,6 +7,7 @@ use device::State;
 use device::start::new_state;
 use platform::cells::byte_at;
 use platform::cells::lay;
+use tinyboot_protocol::COMPAT_UNSET;
 ghost use Prim.Native.Nat.{_≤_};
 ghost use Rattle.io.specs.Counts.{Counts};
 
@@ -46,7 +47,7 @@ pub fn listening() -> Setup {
         id: [0u8; 16],
         id_len: 0,
         version: 0,
-        key: 0xFFFF_FFFF,
+        key: COMPAT_UNSET,
     }
 }
 
