@@ -1,0 +1,65 @@
+-- Each part of the alphabet picks its case.
+use borrow.Author.Needs.{needs}
+use borrow.Author.Tests.{le-leb, lt-leb}
+use native.Mathlib.Omega.{arith}
+use Rattle.bench.proofs.digits.value.Statement.{statement}
+use Rattle.bench.proofs.digits.value.Tie as tie
+
+add-result : tie.Need-add-result
+add-result c = search needs
+
+add-result-2 : tie.Need-add-result-2
+add-result-2 c = search needs
+
+returns : tie.Need-returns
+returns c =
+    let x = c .before .before .args .c in
+    simp (le-leb 48 x (omega arith), le-leb x 57 (omega arith)) (omega arith)
+
+returns-2 : tie.Need-returns-2
+returns-2 c =
+    let x = c .before .before .before .before .args .c in
+    simp (lt-leb x 57 (omega arith), le-leb 48 x (omega arith), le-leb 65 x (omega arith), le-leb x 70 (omega arith)) (omega arith)
+
+returns-3 : tie.Need-returns-3
+returns-3 c =
+    let x = c .before .before .before .before .before .before .args .c in
+    simp
+    (lt-leb x 57 (omega arith), le-leb 48 x (omega arith), le-leb 65 x (omega arith), lt-leb x 70 (omega arith), le-leb 97 x (omega arith), le-leb x 102 (omega arith))
+    (omega arith)
+
+returns-4 : tie.Need-returns-4
+returns-4 c =
+    let x = c .before .args .c in
+    simp (lt-leb 48 x (omega arith), lt-leb 65 x (omega arith), lt-leb 97 x (omega arith))
+
+returns-5 : tie.Need-returns-5
+returns-5 c =
+    let x = c .before .before .before .args .c in
+    simp (le-leb 48 x (omega arith), lt-leb x 57 (omega arith), lt-leb 65 x (omega arith), lt-leb 97 x (omega arith))
+
+returns-6 : tie.Need-returns-6
+returns-6 c =
+    let x = c .before .before .before .before .before .args .c in
+    simp
+    (le-leb 48 x (omega arith), lt-leb x 57 (omega arith), le-leb 65 x (omega arith), lt-leb x 70 (omega arith), lt-leb 97 x (omega arith))
+
+returns-7 : tie.Need-returns-7
+returns-7 c =
+    let x = c .before .before .before .before .before .before .args .c in
+    simp
+    (le-leb 48 x (omega arith), lt-leb x 57 (omega arith), le-leb 65 x (omega arith), lt-leb x 70 (omega arith), le-leb 97 x (omega arith), lt-leb x 102 (omega arith))
+
+pub value-spec : {M : Type 1} → statement M
+value-spec =
+    tie.close
+    (tie.spec
+    add-result
+    add-result-2
+    returns
+    returns-2
+    returns-3
+    returns-4
+    returns-5
+    returns-6
+    returns-7)

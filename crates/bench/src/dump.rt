@@ -1,0 +1,73 @@
+// What `d` shows of the bench.
+use crate::module::Bench;
+use crate::show;
+use platform::cells::first;
+use tinyboot_protocol::crc::CRC_INIT;
+use tinyboot_protocol::crc::crc16;
+
+// The length of what is lent, and its CRC.
+fn summed(out: &mut [u8], at: usize, name: &[u8], s: &[u8]) -> usize {
+    let at = show::text(out, at, name);
+    let at = show::next_decimal(out, at, s.len() as u64);
+    let at = show::byte(out, at, b' ');
+    let at = show::hex16(out, at, crc16(CRC_INIT, s));
+    show::byte(out, at, b'\n')
+}
+
+// A name alone where there are no bytes.
+fn listed(out: &mut [u8], at: usize, name: &[u8], s: &[u8]) -> usize {
+    let at = show::text(out, at, name);
+    if s.len() == 0 {
+        return show::byte(out, at, b'\n');
+    }
+    let at = show::byte(out, at, b' ');
+    let at = show::hex(out, at, s);
+    show::byte(out, at, b'\n')
+}
+
+fn pending(out: &mut [u8], at: usize, next: u32) -> usize {
+    if next == 0xFFFF_FFFF {
+        return show::text(out, at, b" -");
+    }
+    show::next_decimal(out, at, next as u64)
+}
+
+fn flags(out: &mut [u8], at: usize, selected: bool, closed: bool) -> usize {
+    let at = show::next_decimal(out, at, selected as u64);
+    show::next_decimal(out, at, !closed as u64)
+}
+
+fn state(out: &mut [u8], at: usize, bench: Bench) -> usize {
+    let at = show::text(out, at, b"state");
+    let at = show::next_decimal(out, at, bench.got as u64);
+    let at = show::next_decimal(out, at, bench.fill as u64);
+    let at = pending(out, at, bench.next);
+    let at = flags(out, at, bench.selected, bench.closed);
+    show::byte(out, at, b'\n')
+}
+
+// The data area stands at 10 to 61 of the frame's bytes.
+fn area(out: &mut [u8], at: usize, f: &[u8]) -> usize {
+    if f.len() < 62 {
+        return at;
+    }
+    listed(out, at, b"data", &f[10..62])
+}
+
+pub fn dump(
+    bench: Bench,
+    f: &[u8; 64],
+    flash: &[u8],
+    record: &[u8],
+    room: &[u8],
+    out: &mut [u8],
+) -> Bench {
+    let mut bench = bench;
+    let at = summed(out, bench.out, b"flash", first(flash, bench.flash));
+    let at = listed(out, at, b"record", first(record, bench.record));
+    let at = state(out, at, bench);
+    let at = area(out, at, f);
+    let at = summed(out, at, b"room", first(room, bench.room));
+    bench.out = at;
+    bench
+}

@@ -1,0 +1,189 @@
+// Bytes fed to the module.
+use crate::module;
+use crate::module::Bench;
+use crate::show;
+use crate::starting;
+use dispatcher::Answer;
+use feed::Passed;
+use feed::feed_in;
+use platform::cells::first;
+use tinyboot_protocol::RunMode;
+ghost use mathlib.Core.Path.{_≡_};
+ghost use Rattle.tinyboot_protocol.specs.Names.{modeNumber};
+ghost use Rattle.dispatcher.specs.Answers.{toldOf};
+
+// What a call says, in numbers.
+struct Said {
+    number: u64,
+    len: usize,
+    wait: u8,
+    mode: RunMode,
+}
+
+// The bench after a call, how many bytes it took, and whether the rest may be handed in.
+struct Called {
+    bench: Bench,
+    taken: usize,
+    more: bool,
+}
+
+fn mute(number: u64) -> Said
+    ensures { λ r. ⌜ (r .number ≡ number) × (r .len ≡ 0) × (r .wait ≡ 0) × (modeNumber (r .mode) ≡ 1) ⌝ }
+{
+    Said {
+        number: number,
+        len: 0,
+        wait: 0,
+        mode: RunMode::Service,
+    }
+}
+
+fn numbers_of(answer: Answer) -> Said
+    ensures { λ r. ⌜ (r .number ≡ toldOf answer .number) × (r .len ≡ toldOf answer .len) × (r .wait ≡ toldOf answer .wait) × (modeNumber (r .mode) ≡ toldOf answer .mode) ⌝ }
+{
+    match answer {
+        Answer::Quiet => mute(0),
+        Answer::Silent => mute(1),
+        Answer::Reply { len, wait } => Said {
+            number: 2,
+            len: len,
+            wait: wait,
+            mode: RunMode::Service,
+        },
+        Answer::Restart { len, mode } => Said {
+            number: 3,
+            len: len,
+            wait: 0,
+            mode: mode,
+        },
+        Answer::BadSetup => mute(10),
+        Answer::BadState => mute(11),
+        Answer::BadFlash => mute(12),
+        Answer::BadRecord => mute(13),
+        Answer::NoRoom => mute(14),
+        Answer::Closed => mute(15),
+    }
+}
+
+// The reply's bytes, where there are any, after a blank.
+fn replied(out: &mut [u8], at: usize, reply: &[u8]) -> usize {
+    if reply.len() == 0 {
+        return show::byte(out, at, b'\n');
+    }
+    let at = show::byte(out, at, b' ');
+    let at = show::hex(out, at, reply);
+    show::byte(out, at, b'\n')
+}
+
+fn tell(out: &mut [u8], at: usize, said: Said, taken: usize, room: &[u8]) -> usize {
+    let at = show::decimal(out, at, said.number);
+    let at = show::next_decimal(out, at, taken as u64);
+    let at = show::next_decimal(out, at, said.len as u64);
+    let at = show::next_decimal(out, at, said.wait as u64);
+    let at = show::byte(out, at, b' ');
+    let mode = said.mode;
+    let at = starting::mode(out, at, mode);
+    replied(out, at, first(room, said.len))
+}
+
+// The call, on what is lent.
+fn fed(
+    bench: Bench,
+    bytes: &[u8],
+    f: &mut [u8; 64],
+    page: &mut [u8; 64],
+    flash: &mut [u8],
+    record: &mut [u8],
+    room: &mut [u8],
+) -> Passed {
+    let setup = bench.setup;
+    let flash_len = module::lent(bench.flash, flash);
+    let record_len = module::lent(bench.record, record);
+    let room_len = module::lent(bench.room, room);
+    feed_in(
+        setup,
+        f,
+        bench.got,
+        page,
+        bench.fill,
+        bench.next,
+        bench.selected,
+        bench.closed,
+        bytes,
+        &mut flash[..flash_len],
+        &mut record[..record_len],
+        &mut room[..room_len],
+    )
+}
+
+// One call, and its line.
+fn call(
+    bench: Bench,
+    bytes: &[u8],
+    f: &mut [u8; 64],
+    page: &mut [u8; 64],
+    flash: &mut [u8],
+    record: &mut [u8],
+    room: &mut [u8],
+    out: &mut [u8],
+) -> Called {
+    let mut bench = bench;
+    let p = fed(bench, bytes, f, page, flash, record, room);
+    let answer = p.answer;
+    let s = numbers_of(answer);
+    let at = tell(out, bench.out, s, p.taken, room);
+    bench.got = p.got;
+    bench.fill = p.fill;
+    bench.next = p.next;
+    bench.selected = p.selected;
+    bench.closed = p.closed;
+    bench.out = at;
+    Called {
+        bench: bench,
+        taken: p.taken,
+        more: s.number < 3,
+    }
+}
+
+pub fn once(
+    bench: Bench,
+    bytes: &[u8],
+    f: &mut [u8; 64],
+    page: &mut [u8; 64],
+    flash: &mut [u8],
+    record: &mut [u8],
+    room: &mut [u8],
+    out: &mut [u8],
+) -> Bench {
+    let c = call(bench, bytes, f, page, flash, record, room, out);
+    let after = c.bench;
+    after
+}
+
+// At least one call; then what it did not take is handed in again, until none is left, a restart is due, or a call refuses or takes nothing.
+pub fn all(
+    bench: Bench,
+    bytes: &[u8],
+    f: &mut [u8; 64],
+    page: &mut [u8; 64],
+    flash: &mut [u8],
+    record: &mut [u8],
+    room: &mut [u8],
+    out: &mut [u8],
+) -> Bench {
+    let mut bench = bench;
+    let mut at: usize = 0;
+    loop {
+        let c = call(bench, &bytes[at..], f, page, flash, record, room, out);
+        bench = c.bench;
+        let n = c.taken;
+        if n == 0 || !c.more {
+            break;
+        }
+        if bytes.len() - at <= n {
+            break;
+        }
+        at += n;
+    }
+    bench
+}

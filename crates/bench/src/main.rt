@@ -1,0 +1,33 @@
+// One module on the bench, driven by a script on standard input: docs/BENCH.md has its language.
+mod digits;
+mod dump;
+mod feeding;
+mod input;
+mod limits;
+mod line;
+mod module;
+mod numbers;
+mod script;
+mod show;
+mod starting;
+
+fn main() {
+    let mut block = io::large_buffer();
+    let mut bytes = [0u8; limits::LINE];
+    let mut f = [0u8; 64];
+    let mut page = [0u8; 64];
+    let mut flash = [0u8; limits::FLASH];
+    let mut record = [0u8; limits::RECORD];
+    let mut room = [0u8; limits::ROOM];
+    let mut out = io::large_buffer();
+    script::run(
+        &mut block,
+        &mut bytes,
+        &mut f,
+        &mut page,
+        &mut flash,
+        &mut record,
+        &mut room,
+        &mut out,
+    );
+}

@@ -1,0 +1,162 @@
+// The module on the bench: its setup and the numbers of its state. The arrays, the frame's and the page's 64 bytes, flash, record and reply room, are lent
+// beside it, so that no call copies them.
+use crate::limits;
+use crate::numbers;
+use device::Setup;
+use device::State;
+use device::start::new_state;
+use platform::cells::byte_at;
+use platform::cells::lay;
+use tinyboot_protocol::COMPAT_UNSET;
+ghost use Prim.Native.Nat.{_≤_};
+ghost use Rattle.io.specs.Counts.{Counts};
+
+pub struct Bench {
+    pub setup: Setup,
+    pub got: usize,
+    pub fill: usize,
+    pub next: u32,
+    pub selected: bool,
+    pub closed: bool,
+    // How much is lent of each buffer.
+    pub flash: usize,
+    pub record: usize,
+    pub room: usize,
+    // The place of the next byte in the output.
+    pub out: usize,
+}
+
+fn least(a: usize, b: usize) -> usize
+    ensures { λ r. ⌜ r ≤ b ⌝ }
+{
+    if a < b { a } else { b }
+}
+
+// How much of a buffer is lent. It takes the buffer, so that a part of that length can be lent with no proof.
+pub fn lent(most: usize, buffer: &[u8]) -> usize
+    ensures { λ r. ⌜ Counts r (now (buffer .entry)) ⌝ }
+{
+    least(most, buffer.len())
+}
+
+// The setup of a bench that no script has set up yet.
+pub fn listening() -> Setup {
+    Setup {
+        erase_size: 64,
+        capacity: 16384,
+        id: [0u8; 16],
+        id_len: 0,
+        version: 0,
+        key: COMPAT_UNSET,
+    }
+}
+
+fn id_of(bytes: &[u8]) -> [u8; 16] {
+    let mut id = [0u8; 16];
+    let mut i: usize = 0;
+    while i < 16 {
+        id[i] = byte_at(bytes, 9 + i);
+        i += 1;
+    }
+    id
+}
+
+// The setup that 31 bytes stand for.
+pub fn setup_of(bytes: &[u8]) -> Setup {
+    let id = id_of(bytes);
+    Setup {
+        erase_size: numbers::four(bytes, 0) as usize,
+        capacity: numbers::four(bytes, 4) as usize,
+        id: id,
+        id_len: byte_at(bytes, 8) as usize,
+        version: numbers::two(bytes, 25),
+        key: numbers::four(bytes, 27),
+    }
+}
+
+fn fill(s: &mut [u8], b: u8) {
+    let mut i: usize = 0;
+    while i < s.len() {
+        s[i] = b;
+        i += 1;
+    }
+}
+
+// The state is the bench's from now on.
+pub fn adopted(bench: Bench, state: State, f: &mut [u8; 64], page: &mut [u8; 64]) -> Bench {
+    let mut bench = bench;
+    let frame = state.frame;
+    let bytes = frame.bytes;
+    let filled = state.page;
+    *f = bytes;
+    *page = filled;
+    bench.got = frame.got;
+    bench.fill = state.fill;
+    bench.next = state.next;
+    bench.selected = state.selected;
+    bench.closed = state.closed;
+    bench
+}
+
+// A new bench. The output goes on where it stood.
+pub fn renewed(
+    setup: Setup,
+    out: usize,
+    f: &mut [u8; 64],
+    page: &mut [u8; 64],
+    flash: &mut [u8],
+    record: &mut [u8],
+    room: &mut [u8],
+) -> Bench {
+    fill(flash, 0xFF);
+    fill(record, 0xFF);
+    fill(room, 0);
+    let bench = Bench {
+        setup: setup,
+        got: 0,
+        fill: 0,
+        next: 0,
+        selected: false,
+        closed: false,
+        flash: least(setup.capacity, limits::FLASH),
+        record: 12,
+        room: 64,
+        out: out,
+    };
+    let state = new_state(false);
+    adopted(bench, state, f, page)
+}
+
+// The bytes from a place on.
+pub fn poke(s: &mut [u8], at: usize, bytes: &[u8]) {
+    if at <= s.len() {
+        lay(&mut s[at..], bytes);
+    }
+}
+
+// A number of the state; field 4 is whether the module is open.
+pub fn set(bench: Bench, field: u8, value: u32) -> Bench {
+    let mut bench = bench;
+    match field {
+        0 => {
+            bench.got = value as usize;
+            bench
+        }
+        1 => {
+            bench.fill = value as usize;
+            bench
+        }
+        2 => {
+            bench.next = value;
+            bench
+        }
+        3 => {
+            bench.selected = value == 1;
+            bench
+        }
+        _ => {
+            bench.closed = value == 0;
+            bench
+        }
+    }
+}
