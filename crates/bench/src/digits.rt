@@ -7,7 +7,7 @@ ghost use Rattle.bench.specs.Digits.{valueOf, upperOf};
 pub const NONE: u8 = 16;
 
 // The value of a digit of either case.
-pub fn value(c: u8) -> u8
+pub(crate) fn value(c: u8) -> u8
     ensures { λ r. ⌜ r ≡ valueOf c ⌝ }
 {
     match c {
@@ -19,7 +19,7 @@ pub fn value(c: u8) -> u8
 }
 
 // The byte that two digits of these values code.
-pub fn byte(high: u8, low: u8) -> u8
+pub(crate) fn byte(high: u8, low: u8) -> u8
     requires { ⌜ (high < 16) × (low < 16) ⌝ }
     ensures { λ r. ⌜ r ≡ 16 * high + low ⌝ }
 {
@@ -27,7 +27,7 @@ pub fn byte(high: u8, low: u8) -> u8
 }
 
 // The digit of a value, in upper case.
-pub fn upper(v: u8) -> u8
+pub(crate) fn upper(v: u8) -> u8
     requires { ⌜ v < 16 ⌝ }
     ensures { λ r. ⌜ r ≡ upperOf v ⌝ }
 {

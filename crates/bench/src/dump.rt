@@ -54,7 +54,7 @@ fn area(out: &mut [u8], at: usize, f: &[u8]) -> usize {
     listed(out, at, b"data", &f[10..62])
 }
 
-pub fn dump(
+pub(crate) fn dump(
     bench: Bench,
     f: &[u8; 64],
     flash: &[u8],

@@ -102,13 +102,13 @@ fn fed(
     let room_len = module::lent(bench.room, room);
     feed_in(
         setup,
-        f,
         bench.got,
-        page,
         bench.fill,
         bench.next,
         bench.selected,
         bench.closed,
+        f,
+        page,
         bytes,
         &mut flash[..flash_len],
         &mut record[..record_len],
@@ -145,7 +145,7 @@ fn call(
     }
 }
 
-pub fn once(
+pub(crate) fn once(
     bench: Bench,
     bytes: &[u8],
     f: &mut [u8; 64],
@@ -161,7 +161,7 @@ pub fn once(
 }
 
 // At least one call; then what it did not take is handed in again, until none is left, a restart is due, or a call refuses or takes nothing.
-pub fn all(
+pub(crate) fn all(
     bench: Bench,
     bytes: &[u8],
     f: &mut [u8; 64],

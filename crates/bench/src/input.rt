@@ -33,7 +33,7 @@ fn refilled(block: &mut [u8], at: usize, end: usize) -> Place
 }
 
 // The next line. A proved loop has to end, and a line may be of any length, so the reads are counted from a number that no run uses up.
-pub fn next(block: &mut [u8], at: usize, end: usize, bytes: &mut [u8]) -> Taken
+pub(crate) fn next(block: &mut [u8], at: usize, end: usize, bytes: &mut [u8]) -> Taken
     requires { ⌜ (at ≤ end) × (end ≤ length (now block)) ⌝ }
     ensures { λ r. ⌜ (r .at ≤ r .end) × (r .end ≤ length (now (block .exit))) ⌝ }
 {

@@ -101,7 +101,7 @@ fn is_within(letter: u8, bytes: &[u8]) -> bool
 }
 
 // Whether this is a line of the script.
-pub fn is_allowed(letter: u8, bytes: &[u8]) -> bool
+pub(crate) fn is_allowed(letter: u8, bytes: &[u8]) -> bool
     ensures { λ r. ⌜ r ≡ allowed letter (now (bytes .entry)) ⌝ }
 {
     if carries(letter, bytes.len()) {

@@ -143,7 +143,7 @@ pub struct Scanned {
 }
 
 // A part of the input, up to the line's end if it is there.
-pub fn scan(line: Line, part: &[u8], bytes: &mut [u8]) -> Scanned
+pub(crate) fn scan(line: Line, part: &[u8], bytes: &mut [u8]) -> Scanned
     ensures { λ r. ⌜ r .taken ≤ length (now (part .entry)) ⌝ }
 {
     let mut line = line;

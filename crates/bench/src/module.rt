@@ -33,14 +33,14 @@ fn least(a: usize, b: usize) -> usize
 }
 
 // How much of a buffer is lent. It takes the buffer, so that a part of that length can be lent with no proof.
-pub fn lent(most: usize, buffer: &[u8]) -> usize
+pub(crate) fn lent(most: usize, buffer: &[u8]) -> usize
     ensures { λ r. ⌜ Counts r (now (buffer .entry)) ⌝ }
 {
     least(most, buffer.len())
 }
 
 // The setup of a bench that no script has set up yet.
-pub fn listening() -> Setup {
+pub(crate) fn listening() -> Setup {
     Setup {
         erase_size: 64,
         capacity: 16384,
@@ -62,7 +62,7 @@ fn id_of(bytes: &[u8]) -> [u8; 16] {
 }
 
 // The setup that 31 bytes stand for.
-pub fn setup_of(bytes: &[u8]) -> Setup {
+pub(crate) fn setup_of(bytes: &[u8]) -> Setup {
     let id = id_of(bytes);
     Setup {
         erase_size: numbers::four(bytes, 0) as usize,
@@ -83,7 +83,7 @@ fn fill(s: &mut [u8], b: u8) {
 }
 
 // The state is the bench's from now on.
-pub fn adopted(bench: Bench, state: State, f: &mut [u8; 64], page: &mut [u8; 64]) -> Bench {
+pub(crate) fn adopted(bench: Bench, state: State, f: &mut [u8; 64], page: &mut [u8; 64]) -> Bench {
     let mut bench = bench;
     let frame = state.frame;
     let bytes = frame.bytes;
@@ -99,7 +99,7 @@ pub fn adopted(bench: Bench, state: State, f: &mut [u8; 64], page: &mut [u8; 64]
 }
 
 // A new bench. The output goes on where it stood.
-pub fn renewed(
+pub(crate) fn renewed(
     setup: Setup,
     out: usize,
     f: &mut [u8; 64],
@@ -128,14 +128,14 @@ pub fn renewed(
 }
 
 // The bytes from a place on.
-pub fn poke(s: &mut [u8], at: usize, bytes: &[u8]) {
+pub(crate) fn poke(s: &mut [u8], at: usize, bytes: &[u8]) {
     if at <= s.len() {
         lay(&mut s[at..], bytes);
     }
 }
 
 // A number of the state; field 4 is whether the module is open.
-pub fn set(bench: Bench, field: u8, value: u32) -> Bench {
+pub(crate) fn set(bench: Bench, field: u8, value: u32) -> Bench {
     let mut bench = bench;
     match field {
         0 => {

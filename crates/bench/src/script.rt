@@ -235,7 +235,7 @@ fn lines(
 }
 
 // The whole script, on buffers that the caller lends.
-pub fn run(
+pub(crate) fn run(
     block: &mut [u8],
     bytes: &mut [u8],
     f: &mut [u8; 64],

@@ -3,11 +3,11 @@ use crate::digits;
 use libc::STDOUT_FILENO;
 
 // What the buffer holds goes out.
-pub fn flush(out: &[u8], at: usize) {
+pub(crate) fn flush(out: &[u8], at: usize) {
     io::write_all(STDOUT_FILENO, platform::cells::first(out, at));
 }
 
-pub fn byte(out: &mut [u8], at: usize, b: u8) -> usize {
+pub(crate) fn byte(out: &mut [u8], at: usize, b: u8) -> usize {
     if at < out.len() {
         out[at] = b;
         return at + 1;
@@ -17,7 +17,7 @@ pub fn byte(out: &mut [u8], at: usize, b: u8) -> usize {
     1
 }
 
-pub fn text(out: &mut [u8], at: usize, s: &[u8]) -> usize {
+pub(crate) fn text(out: &mut [u8], at: usize, s: &[u8]) -> usize {
     let mut at = at;
     let mut i: usize = 0;
     while i < s.len() {
@@ -27,14 +27,14 @@ pub fn text(out: &mut [u8], at: usize, s: &[u8]) -> usize {
     at
 }
 
-pub fn decimal(out: &mut [u8], at: usize, n: u64) -> usize {
+pub(crate) fn decimal(out: &mut [u8], at: usize, n: u64) -> usize {
     let mut digits = [0u8; 20];
     let k = io::decimal(n, &mut digits);
     text(out, at, &digits[..k])
 }
 
 // A blank, and the number.
-pub fn next_decimal(out: &mut [u8], at: usize, n: u64) -> usize {
+pub(crate) fn next_decimal(out: &mut [u8], at: usize, n: u64) -> usize {
     let at = byte(out, at, b' ');
     decimal(out, at, n)
 }
@@ -44,7 +44,7 @@ fn pair(out: &mut [u8], at: usize, b: u8) -> usize {
     byte(out, at, digits::upper(b % 16))
 }
 
-pub fn hex(out: &mut [u8], at: usize, s: &[u8]) -> usize {
+pub(crate) fn hex(out: &mut [u8], at: usize, s: &[u8]) -> usize {
     let mut at = at;
     let mut i: usize = 0;
     while i < s.len() {
@@ -55,7 +55,7 @@ pub fn hex(out: &mut [u8], at: usize, s: &[u8]) -> usize {
 }
 
 // Four digits.
-pub fn hex16(out: &mut [u8], at: usize, v: u16) -> usize {
+pub(crate) fn hex16(out: &mut [u8], at: usize, v: u16) -> usize {
     let at = pair(out, at, (v / 256) as u8);
     pair(out, at, (v % 256) as u8)
 }

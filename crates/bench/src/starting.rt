@@ -32,7 +32,7 @@ fn mode_of(b: u8) -> RunMode {
     RunMode::Service
 }
 
-pub fn mode(out: &mut [u8], at: usize, mode: RunMode) -> usize {
+pub(crate) fn mode(out: &mut [u8], at: usize, mode: RunMode) -> usize {
     match mode {
         RunMode::HandOff => show::text(out, at, b"handoff"),
         RunMode::Service => show::text(out, at, b"service"),
@@ -65,7 +65,7 @@ fn started(bench: Bench, asked: u8, flash: &[u8], record: &mut [u8]) -> Started 
     )
 }
 
-pub fn begin(
+pub(crate) fn begin(
     bench: Bench,
     asked: u8,
     f: &mut [u8; 64],

@@ -78,14 +78,14 @@ fn reply(h: Handled, wait: u8, f: &mut [u8; 64], room: &mut [u8]) -> Answer
     }
 }
 
-fn mute(fill: usize, next: u32, selected: bool) -> Dispatched
-    ensures { λ r. ⌜ r ≡ mutedTo fill next selected ⌝ }
+fn mute(fill: usize, next: u32, on: bool) -> Dispatched
+    ensures { λ r. ⌜ r ≡ mutedTo fill next on ⌝ }
 {
     Dispatched {
         answer: Answer::Silent,
         fill: fill,
         next: next,
-        selected: selected,
+        selected: on,
         closed: false,
     }
 }
@@ -118,13 +118,13 @@ fn answer(
     page: &mut [u8; 64],
     fill: usize,
     next: u32,
-    selected: bool,
+    on: bool,
     flash: &mut [u8],
     meta: &mut [u8],
     room: &mut [u8],
 ) -> Dispatched
     ensures { λ r. ⌜ endedTo r (now (f .exit)) (now (page .exit)) (now (flash .exit)) (now (meta .exit)) (now (room .exit)) ≡
-        answeredOf 52 0 (obeyedOf 52 64 setup (statusNumber status) (held (now (f .entry)) (now (page .entry)) fill next (now (flash .entry)) (now (meta .entry)))) selected (now (room .entry)) ⌝ }
+        answeredOf 52 0 (obeyedOf 52 64 setup (statusNumber status) (held (now (f .entry)) (now (page .entry)) fill next (now (flash .entry)) (now (meta .entry)))) on (now (room .entry)) ⌝ }
 {
     let h = obey(setup, status, f, page, fill, next, flash, meta);
     let a = reply(h, 0, f, room);
@@ -132,7 +132,7 @@ fn answer(
         answer: a,
         fill: h.fill,
         next: h.next,
-        selected: selected,
+        selected: on,
         closed: h.restart,
     }
 }
@@ -183,29 +183,18 @@ fn unaddressed(
     page: &mut [u8; 64],
     fill: usize,
     next: u32,
-    selected: bool,
+    on: bool,
     flash: &mut [u8],
     meta: &mut [u8],
     room: &mut [u8],
 ) -> Dispatched
     ensures { λ r. ⌜ endedTo r (now (f .exit)) (now (page .exit)) (now (flash .exit)) (now (meta .exit)) (now (room .exit)) ≡
-        unaddressedOf 52 64 setup (statusNumber status) (held (now (f .entry)) (now (page .entry)) fill next (now (flash .entry)) (now (meta .entry))) selected (now (room .entry)) ⌝ }
+        unaddressedOf 52 64 setup (statusNumber status) (held (now (f .entry)) (now (page .entry)) fill next (now (flash .entry)) (now (meta .entry))) on (now (room .entry)) ⌝ }
 {
     if is_request(status) {
-        return mute(fill, next, selected);
+        return mute(fill, next, on);
     }
-    answer(
-        setup,
-        status,
-        f,
-        page,
-        fill,
-        next,
-        selected,
-        flash,
-        meta,
-        room,
-    )
+    answer(setup, status, f, page, fill, next, on, flash, meta, room)
 }
 
 // An addressed one replies to a Select that matches it and, while selected, to other requests.
@@ -216,35 +205,24 @@ fn addressed(
     page: &mut [u8; 64],
     fill: usize,
     next: u32,
-    selected: bool,
+    on: bool,
     flash: &mut [u8],
     meta: &mut [u8],
     room: &mut [u8],
 ) -> Dispatched
     ensures { λ r. ⌜ endedTo r (now (f .exit)) (now (page .exit)) (now (flash .exit)) (now (meta .exit)) (now (room .exit)) ≡
-        addressedOf 52 64 setup (statusNumber status) (held (now (f .entry)) (now (page .entry)) fill next (now (flash .entry)) (now (meta .entry))) selected (now (room .entry)) ⌝ }
+        addressedOf 52 64 setup (statusNumber status) (held (now (f .entry)) (now (page .entry)) fill next (now (flash .entry)) (now (meta .entry))) on (now (room .entry)) ⌝ }
 {
     if !handler::is_ok(status) {
-        return mute(fill, next, selected);
+        return mute(fill, next, on);
     }
     if is_select(f) {
         return select(setup, f, fill, next, room);
     }
-    if selected {
-        return answer(
-            setup,
-            status,
-            f,
-            page,
-            fill,
-            next,
-            selected,
-            flash,
-            meta,
-            room,
-        );
+    if on {
+        return answer(setup, status, f, page, fill, next, on, flash, meta, room);
     }
-    mute(fill, next, selected)
+    mute(fill, next, on)
 }
 
 // A frame that has ended, of which the reader says this.
@@ -255,38 +233,16 @@ pub fn dispatch(
     page: &mut [u8; 64],
     fill: usize,
     next: u32,
-    selected: bool,
+    on: bool,
     flash: &mut [u8],
     meta: &mut [u8],
     room: &mut [u8],
 ) -> Dispatched
     ensures { λ r. ⌜ endedTo r (now (f .exit)) (now (page .exit)) (now (flash .exit)) (now (meta .exit)) (now (room .exit)) ≡
-        dispatchOf 52 64 setup (statusNumber status) (held (now (f .entry)) (now (page .entry)) fill next (now (flash .entry)) (now (meta .entry))) selected (now (room .entry)) ⌝ }
+        dispatchOf 52 64 setup (statusNumber status) (held (now (f .entry)) (now (page .entry)) fill next (now (flash .entry)) (now (meta .entry))) on (now (room .entry)) ⌝ }
 {
     if setup.id_len == 0 {
-        return unaddressed(
-            setup,
-            status,
-            f,
-            page,
-            fill,
-            next,
-            selected,
-            flash,
-            meta,
-            room,
-        );
+        return unaddressed(setup, status, f, page, fill, next, on, flash, meta, room);
     }
-    addressed(
-        setup,
-        status,
-        f,
-        page,
-        fill,
-        next,
-        selected,
-        flash,
-        meta,
-        room,
-    )
+    addressed(setup, status, f, page, fill, next, on, flash, meta, room)
 }

@@ -12,6 +12,7 @@ use Rattle.device.specs.declared.State.{State}
 use Rattle.device.specs.Refusals.{refusalOf}
 use Rattle.feed.specs.declared.Fed.{Fed}
 use Rattle.feed.specs.declared.Passed.{Passed}
+use Rattle.dispatcher.specs.declared.Answer.{Answer}
 use Rattle.dispatcher.specs.Answers.{Told, mute, toldOf}
 use Rattle.handler.specs.Handling.{held}
 use Rattle.dispatcher.specs.Dispatch.{Ending, dispatchOf}
@@ -28,6 +29,10 @@ pub record Called : Type 0 where
 abbrev pub stateWith : List ℕ → ℕ → List ℕ → ℕ → ℕ → Bool → Bool → State
 stateWith f g p fill next selected closed =
     record { frame = framed f g; page = p; fill = fill; next = next; selected = selected; closed = closed }
+
+abbrev pub passedWith : ℕ → ℕ → ℕ → Bool → Bool → ℕ → Answer → Passed
+passedWith got fill next selected closed taken answer =
+    record { got = got; fill = fill; next = next; selected = selected; closed = closed; taken = taken; answer = answer }
 
 -- the code's answers, with what was lent as it stands afterwards: of the call by value, and of the one that the state's arrays are lent to
 abbrev pub fedTo : Fed → List ℕ → List ℕ → List ℕ → Called

@@ -12,11 +12,12 @@ use tinyboot_protocol::frame::Stop;
 ghost use mathlib.Core.Path.{_≡_};
 ghost use mathlib.Core.Bool.{true, false};
 ghost use lib.Dec.{eqb};
+ghost use lib.ListN.{length};
 ghost use Rattle.tinyboot_protocol.specs.Names.{statusNumber};
 ghost use Rattle.tinyboot_protocol.specs.Stored.{wellOf, saidOf};
-ghost use Rattle.device.specs.Refusals.{refusalNumber};
+ghost use Rattle.device.specs.Refusals.{refusalNumber, refusalOf};
 ghost use Rattle.dispatcher.specs.Answers.{mute, toldOf};
-ghost use Rattle.feed.specs.Feed.{stateWith, passedTo, fedTo, takenOf, fedOf};
+ghost use Rattle.feed.specs.Feed.{stateWith, passedWith, passedTo, fedTo, takenOf, fedOf};
 
 // The state afterwards, how many bytes of the piece were taken, and what the call says.
 pub struct Fed {
@@ -34,6 +35,28 @@ pub struct Passed {
     pub closed: bool,
     pub taken: usize,
     pub answer: Answer,
+}
+
+fn after(
+    got: usize,
+    fill: usize,
+    next: u32,
+    selected: bool,
+    closed: bool,
+    taken: usize,
+    answer: Answer,
+) -> Passed
+    ensures { λ r. ⌜ r ≡ passedWith got fill next selected closed taken answer ⌝ }
+{
+    Passed {
+        got: got,
+        fill: fill,
+        next: next,
+        selected: selected,
+        closed: closed,
+        taken: taken,
+        answer: answer,
+    }
 }
 
 // The answer that is this refusal.
@@ -102,15 +125,7 @@ fn pass(
     let p = frame::read_in(f, got, true, bytes);
     let stop = p.stop;
     if is_going(stop) {
-        return Passed {
-            got: p.got,
-            fill: fill,
-            next: next,
-            selected: selected,
-            closed: false,
-            taken: p.taken,
-            answer: Answer::Quiet,
-        };
+        return after(p.got, fill, next, selected, false, p.taken, Answer::Quiet);
     }
     let d = dispatch::dispatch(
         setup,
@@ -125,36 +140,24 @@ fn pass(
         reply,
     );
     let answer = d.answer;
-    Passed {
-        got: 0,
-        fill: d.fill,
-        next: d.next,
-        selected: d.selected,
-        closed: d.closed,
-        taken: p.taken,
-        answer: answer,
-    }
+    after(0, d.fill, d.next, d.selected, d.closed, p.taken, answer)
 }
 
-// `feed` with the state's two arrays lent and its numbers beside them: for who keeps a state in place and feeds it byte by byte.
-pub fn feed_in(
+// The refusal that a call gives, if any, of what is lent to it.
+fn refusal_of(
     setup: Setup,
-    f: &mut [u8; 64],
+    f: &[u8; 64],
     got: usize,
-    page: &mut [u8; 64],
     fill: usize,
     next: u32,
-    selected: bool,
     closed: bool,
-    bytes: &[u8],
-    flash: &mut [u8],
-    meta: &mut [u8],
-    reply: &mut [u8],
-) -> Passed
-    ensures { λ r. ⌜ passedTo r (now (f .exit)) (now (page .exit)) (now (flash .exit)) (now (meta .exit)) (now (reply .exit)) ≡
-        fedOf 52 64 setup (stateWith (now (f .entry)) got (now (page .entry)) fill next selected closed) (now (bytes .entry)) (now (flash .entry)) (now (meta .entry)) (now (reply .entry)) ⌝ }
+    flash: &[u8],
+    meta: &[u8],
+    reply: &[u8],
+) -> Refusal
+    ensures { λ r. ⌜ refusalNumber r ≡ refusalOf 52 64 setup (now (f .entry)) got fill next closed (length (now (flash .entry))) (length (now (meta .entry))) (length (now (reply .entry))) ⌝ }
 {
-    let refusal = refusal::refuses(
+    refusal::refuses(
         setup,
         f,
         got,
@@ -164,7 +167,28 @@ pub fn feed_in(
         flash.len(),
         meta.len(),
         reply.len(),
-    );
+    )
+}
+
+// `feed` with the state's two arrays lent and its numbers beside them: for who keeps a state in place and feeds it byte by byte.
+pub fn feed_in(
+    setup: Setup,
+    got: usize,
+    fill: usize,
+    next: u32,
+    selected: bool,
+    closed: bool,
+    f: &mut [u8; 64],
+    page: &mut [u8; 64],
+    bytes: &[u8],
+    flash: &mut [u8],
+    meta: &mut [u8],
+    reply: &mut [u8],
+) -> Passed
+    ensures { λ r. ⌜ passedTo r (now (f .exit)) (now (page .exit)) (now (flash .exit)) (now (meta .exit)) (now (reply .exit)) ≡
+        fedOf 52 64 setup (stateWith (now (f .entry)) got (now (page .entry)) fill next selected closed) (now (bytes .entry)) (now (flash .entry)) (now (meta .entry)) (now (reply .entry)) ⌝ }
+{
+    let refusal = refusal_of(setup, f, got, fill, next, closed, flash, meta, reply);
     if refusal.is_none() {
         return pass(
             setup,
@@ -180,15 +204,7 @@ pub fn feed_in(
             reply,
         );
     }
-    Passed {
-        got: got,
-        fill: fill,
-        next: next,
-        selected: selected,
-        closed: closed,
-        taken: 0,
-        answer: refused(refusal),
-    }
+    after(got, fill, next, selected, closed, 0, refused(refusal))
 }
 
 // Takes the bytes of a piece up to the end of the first frame in it, carries that frame out on the flash and the record, and writes its reply into the
@@ -207,20 +223,15 @@ pub fn feed(
 {
     let mut s = state;
     let mut frame = s.frame;
-    let got = frame.got;
-    let fill = s.fill;
-    let next = s.next;
-    let selected = s.selected;
-    let closed = s.closed;
     let r = feed_in(
         setup,
+        frame.got,
+        s.fill,
+        s.next,
+        s.selected,
+        s.closed,
         &mut frame.bytes,
-        got,
         &mut s.page,
-        fill,
-        next,
-        selected,
-        closed,
         bytes,
         flash,
         meta,

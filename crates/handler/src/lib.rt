@@ -142,10 +142,7 @@ fn carry(
             bare(status, w.fill, w.next)
         }
         Cmd::Verify => check(setup, f, fill, next, flash, meta),
-        Cmd::Reset => {
-            let status = reset::cmd_reset(f, flash, meta);
-            restart(status, fill, next)
-        }
+        Cmd::Reset => restart(reset::cmd_reset(f, flash, meta), fill, next),
         Cmd::Select => bare(Status::Unsupported, fill, next),
     }
 }

@@ -52,7 +52,7 @@ returns-3 c = let i = c .before .before .before .before .before .before .before 
     let a = o .before .before .before .before .args in
     let g = sym (o .is-ok .ensures) ∙ not-false _ (i .before .before .if1 .left) in
     simp (g, sym (i .is-select .ensures) ∙ c .before .before .before .before .before .before .before .before .before .before .before .before .before .if2 .left, c .before .before .before .before .before .before .before .before .before .before .before .before .if3 .taken)
-    (rw (c .before .before .before .before .before .before .before .before .before .before .before .before .if3 .taken) at (c .before .before .before .before .before .before .answer .ensures ∙ obeyed-good 52 64 (a .setup) _ _ g (a .selected) (a .room .now)))
+    (rw (c .before .before .before .before .before .before .before .before .before .before .before .before .if3 .taken) at (c .before .before .before .before .before .before .answer .ensures ∙ obeyed-good 52 64 (a .setup) _ _ g (a .on) (a .room .now)))
 
 mute-requires-2 : tie.Need-mute-requires-2
 mute-requires-2 c κs = search needs

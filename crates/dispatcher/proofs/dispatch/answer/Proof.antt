@@ -23,7 +23,7 @@ returns : tie.Need-returns
 returns c = let r = c .before .before in
     let o = r .before .before .before .before .before .before .before in
     let a = o .before .before .before .before .before .before .before .before .args in
-    answered 52 0 _ _ (o .obey .ensures) (a .selected) (a .room .now) _ (r .reply .ensures)
+    answered 52 0 _ _ (o .obey .ensures) (a .on) (a .room .now) _ (r .reply .ensures)
 
 pub answer-spec : {M : Type 1} → statement M
 answer-spec =
