@@ -40,9 +40,9 @@ first e t = record { events = e ∷ t .events; state = t .state; flash = t .flas
 abbrev pub eventOf : Ending → Event
 eventOf e = record { told = e .told; reply = take (e .told .len) (e .room) }
 
--- the frame's bytes once q has come, all else as it was
+-- the frame's bytes once q has come over AA 55, all else as it was
 abbrev pub holding : ℕ → Held → List ℕ → Held
-holding cap h q = held (store cap (h .bytes) q) (h .page) (h .fill) (h .next) (h .flash) (h .meta)
+holding cap h q = held (store cap (ready (h .bytes)) q) (h .page) (h .fill) (h .next) (h .flash) (h .meta)
 
 -- after a frame: a restart ends the stream, else it goes on with the rest
 abbrev pub goesOn : (Held → Bool → List ℕ → Story) → List ℕ → Ending → Story
@@ -66,5 +66,5 @@ whole cap st l = begun cap (st .frame .bytes) (st .frame .got) ++ l
 abbrev pub storyOf : ℕ → ℕ → Setup → State → List ℕ → List ℕ → List ℕ → Story
 storyOf cap page s st l flash meta =
     streamOf cap page s (suc (length (whole cap st l)))
-    (held (ready (st .frame .bytes)) (st .page) (st .fill) (st .next) flash meta)
+    (held (st .frame .bytes) (st .page) (st .fill) (st .next) flash meta)
     (st .selected) (whole cap st l)
