@@ -1,3 +1,4 @@
 pub mod Sheet
 pub mod Keeping
 pub mod Rest
+pub mod Rooms
