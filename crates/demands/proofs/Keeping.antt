@@ -49,7 +49,7 @@ with-bytes s h f w e k = record { whole = e; synced = k; run = w .run; flash = w
 sync-on : (f : List ℕ) → Synced f → (op : List ℕ → List ℕ) → ((r : List ℕ) → Synced (op (0xAA ∷ 0x55 ∷ r))) → Synced (op f)
 sync-on f e op k = subst (λ (v : List ℕ). Synced (op v)) (sym e) (k (drop 2 f))
 
-take-two : (n a b : ℕ) (l : List ℕ) → take (10 + n) (a ∷ b ∷ l) ≡ a ∷ b ∷ take (8 + n) l
+pub take-two : (n a b : ℕ) (l : List ℕ) → take (10 + n) (a ∷ b ∷ l) ≡ a ∷ b ∷ take (8 + n) l
 take-two n a b l = let i : 10 + n ≡ suc (suc (8 + n)) = omega arith in rw i refl
 
 sealed-sync : (n : ℕ) (f : List ℕ) → Synced (sealed n f)

@@ -2,3 +2,6 @@ pub mod Sheet
 pub mod Keeping
 pub mod Rest
 pub mod Rooms
+pub mod Stored
+pub mod Calls
+pub mod Cut

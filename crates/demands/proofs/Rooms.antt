@@ -7,7 +7,7 @@ use native.Mathlib.Omega.{arith}
 use borrow.Author.Tests.{leb-true, le-leb}
 use lib.ListN.{length, take, drop}
 use lib.Seq.{take-at, length-take-le}
-use lib.Dec.{leb}
+use lib.Dec.{eqb, leb}
 use Rattle.laws.specs.Over.{over}
 use Rattle.tinyboot_protocol.specs.Reading.{lenOf}
 use Rattle.tinyboot_protocol.specs.Stored.{ready}
@@ -18,7 +18,7 @@ use Rattle.commands.specs.Fields.{flagsOf}
 use Rattle.device.specs.declared.Setup.{Setup}
 use Rattle.handler.specs.Handling.{Held, held, Obeyed}
 use Rattle.dispatcher.specs.Answers.{Told, reply, restart}
-use Rattle.dispatcher.specs.Dispatch.{headed, saidBy, Ending, replyOf, silent, spokenTo, answeredOf, dispatchOf}
+use Rattle.dispatcher.specs.Dispatch.{headed, saidBy, spokenBy, Ending, replyOf, silent, spokenTo, answeredOf, dispatchOf}
 use Rattle.demands.specs.Stream.{Event, eventOf}
 use Rattle.demands.proofs.Keeping.{Fit, headed-length, dispatch-all}
 
@@ -86,3 +86,24 @@ same-room s status h on i w =
     (λ (e : List ℕ → Ending). (room other : List ℕ) → 64 ≤ length room → 64 ≤ length other → Same (e room) (e other))
     (λ g b v room other r o. record { event = refl; left = refl; selected = refl; closed = refl })
     (answered-same s)
+
+-- what is said of a frame that has ended: it is not quiet, and a restart, which closes the feed, is 3
+pub record Numbered (a : Ending) : Type 0 where
+  pub loud : eqb (a .told .number) 0 ≡ false
+  pub closes : a .closed ≡ eqb (a .told .number) 3
+
+answered-number : (s : Setup) (wait : ℕ) (x : Obeyed) (on : Bool) → Fit s (x .left) → (room : List ℕ) → Numbered (answeredOf 52 wait x on room)
+unfolding answeredOf replyOf
+answered-number s wait x on v room = go (x .restart) refl
+  where
+    f : List ℕ
+    f = headed (x .status) (x .len) (x .left .bytes)
+
+    go : (t : Bool) → x .restart ≡ t → Numbered (spokenTo x on (spokenBy (x .restart) wait (flagsOf (x .left .bytes)) (sendOf 52 f room)))
+    go true e = rw e (record { loud = refl; closes = refl })
+    go false e = rw e (record { loud = refl; closes = refl })
+
+pub numbered : (s : Setup) (status : ℕ) (h : Held) (on : Bool) → s .«id_len» ≤ 16 → Fit s h → (room : List ℕ) → Numbered (dispatchOf 52 64 s status h on room)
+numbered s status h on i w =
+    dispatch-all s status h on i w (λ (e : List ℕ → Ending). (room : List ℕ) → Numbered (e room)) (λ g b v room. record { loud = refl; closes = refl })
+    (answered-number s)
