@@ -25,7 +25,7 @@ use Rattle.device.specs.Refusals.{eraseFits, capacityFits, setUp, runFits, well
 use Rattle.handler.specs.Handling.{Held, held}
 use Rattle.dispatcher.specs.Answers.{mute}
 use Rattle.dispatcher.specs.Dispatch.{Ending, dispatchOf}
-use Rattle.feed.specs.Feed.{Called, stateWith, quietBy, endedBy, afterRead, takenOf, refusalFor, fedOf}
+use Rattle.feed.specs.Feed.{Called, stateWith, quietBy, endedBy, afterRead, takenOf, refusalFor, refusedBy, fedOf}
 use Rattle.demands.specs.Stream.{Story, ends, eventOf, holding, goesOn, acted, streamOf}
 use Rattle.demands.specs.Demand.{World, Good, after}
 use Rattle.demands.proofs.Keeping.{Fit, dispatch-fit}
@@ -275,3 +275,19 @@ module _ (s : Setup) (w : World) (y : Good s w) where
       stream-ended n b =
           ap (acted 52 64 s (held f (w .state .page) (w .state .fill) (w .state .next) (w .flash) (w .meta)) b (streamOf 52 64 s n))
           (ap (readFrame 52 true) (sym (append-assoc p x m)) ∙ cut-ended 52 true (p ++ x) m k q r e)
+
+    -- after a restart every call is refused as closed
+    pub ended-closed : (room : List ℕ) → ending room .closed ≡ true → (l other : List ℕ) → 64 ≤ length other →
+        fedOf 52 64 s (endedBy (length x - length r) (ending room) .state) l (ending room .left .flash) (ending room .left .meta) other ≡
+        refusedBy 15 (endedBy (length x - length r) (ending room) .state) (ending room .left .flash) (ending room .left .meta) other
+    unfolding fedOf refusalOf lengthsOf wellFormed wellOf
+    ended-closed room c l other h =
+        let v = left-fit room in
+        simp (
+          y .setup,
+          run-to (s .capacity) (ending room .left .fill) (ending room .left .next) (omega (arith, numbers (s .«id_len») (y .setup) .1)) (v .run),
+          eq-eqb _ _ (v .flash),
+          eq-eqb _ _ (v .meta),
+          le-ltb (length other) 64 h,
+          c,
+        )

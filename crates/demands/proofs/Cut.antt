@@ -18,14 +18,14 @@ use Rattle.device.specs.declared.Setup.{Setup}
 use Rattle.device.specs.declared.State.{State}
 use Rattle.handler.specs.Handling.{Held, held}
 use Rattle.dispatcher.specs.Dispatch.{Ending}
-use Rattle.feed.specs.Feed.{Called, stateWith, endedBy, fedOf}
+use Rattle.feed.specs.Feed.{Called, stateWith, endedBy, refusedBy, fedOf}
 use Rattle.demands.specs.Stream.{Event, Story, ends, first, eventOf, goesOn, acted, streamOf, whole, storyOf}
-use Rattle.demands.specs.Demand.{Device, ours, World, Good, call, after, noted, stopped, Runs, next, stop, Demand3}
+use Rattle.demands.specs.Demand.{ours, World, Good, call, after, noted, stopped, Runs, next, stop, Demand3}
 use Rattle.demands.proofs.Keeping.{Fit}
 use Rattle.demands.proofs.Rest.{begun-short, begun-length}
 use Rattle.demands.proofs.Stored.{store-none}
 use Rattle.demands.proofs.Rooms.{Same, Numbered}
-use Rattle.demands.proofs.Calls.{quieted, quiet-is, quiet-good, stream-on, come, ending, ended-is, left-fit, any-room, told-of, ended-good, untaken, shorter, stream-ended}
+use Rattle.demands.proofs.Calls.{quieted, quiet-is, quiet-good, stream-on, come, ending, ended-is, left-fit, any-room, told-of, ended-good, ended-closed, untaken, shorter, stream-ended}
 
 module _ (s : Setup) where
   abbrev heldOf : World → Held
@@ -176,5 +176,50 @@ module _ (s : Setup) where
   cut y (next {w} {l} {t} x m room a h not rest) n lt = next-any w y x m room h l a t n lt not (λ good k less. cut good rest k less)
   cut y (stop {w} {l} x m room a h u) n lt = stop-any w y x m room h l a n lt u
 
+-- a call in a good world is not refused, and leaves a good world unless it restarts
+module _ (s : Setup) (w : World) (y : Good s w) (x room : List ℕ) (h : 64 ≤ length room) where
+  abbrev done : Called
+  done = call ours s w x room
+
+  abbrev read : Outcome
+  read = readFrame 52 true (begun 52 (w .state .frame .bytes) (w .state .frame .got) ++ x)
+
+  pub never-refused : done .told .number ≤ 3
+  never-refused = go read refl
+    where
+      go : (o : Outcome) → read ≡ o → done .told .number ≤ 3
+      go (Begun q) e = rw (quiet-is s w y x q e room h) (omega arith)
+      go (Ended k q r) e = rw (ended-is s w y x k q r e room h) (told-of s w y x k q r e room .few)
+
+  pub stays-good : (done .told .number ≡ 3 → ⊥) → Good s (after done)
+  stays-good = go read refl
+    where
+      Goal : Called → Type 0
+      Goal v = (v .told .number ≡ 3 → ⊥) → Good s (after v)
+
+      go : (o : Outcome) → read ≡ o → Goal done
+      go (Begun q) e = subst Goal (sym (quiet-is s w y x q e room h)) (λ not. quiet-good s w y x q e)
+      go (Ended k q r) e =
+          subst Goal (sym (ended-is s w y x k q r e room h))
+          (λ not. ended-good s w y x k q r e room (told-of s w y x k q r e room .closes ∙ ne-eqb _ _ not))
+
+  pub nothing-after : done .told .number ≡ 3 → (l other : List ℕ) → 64 ≤ length other →
+      call ours s (after done) l other ≡ refusedBy 15 (done .state) (done .flash) (done .meta) other
+  nothing-after = go read refl
+    where
+      Goal : Called → Type 0
+      Goal v = v .told .number ≡ 3 → (l other : List ℕ) → 64 ≤ length other → call ours s (after v) l other ≡ refusedBy 15 (v .state) (v .flash) (v .meta) other
+
+      go : (o : Outcome) → read ≡ o → Goal done
+      go (Begun q) e = subst Goal (sym (quiet-is s w y x q e room h)) (λ z l other o. absurd (omega arith))
+      go (Ended k q r) e =
+          subst Goal (sym (ended-is s w y x k q r e room h))
+          (λ z. ended-closed s w y x k q r e room (told-of s w y x k q r e room .closes ∙ ap (λ (a : ℕ). eqb a 3) z))
+
+-- demand 3, of our device
 pub demand-3 : Demand3 ours
-demand-3 s w y l t k = cut s y k (suc (length (whole 52 (w .state) l))) (omega arith)
+demand-3 =
+    record {
+      uncut = λ s w y l t k. cut s y k (suc (length (whole 52 (w .state) l))) (omega arith);
+      closed = λ s w y x room h. nothing-after s w y x room h;
+    }

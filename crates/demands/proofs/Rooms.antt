@@ -91,6 +91,7 @@ same-room s status h on i w =
 pub record Numbered (a : Ending) : Type 0 where
   pub loud : eqb (a .told .number) 0 ≡ false
   pub closes : a .closed ≡ eqb (a .told .number) 3
+  pub few : a .told .number ≤ 3
 
 answered-number : (s : Setup) (wait : ℕ) (x : Obeyed) (on : Bool) → Fit s (x .left) → (room : List ℕ) → Numbered (answeredOf 52 wait x on room)
 unfolding answeredOf replyOf
@@ -100,10 +101,10 @@ answered-number s wait x on v room = go (x .restart) refl
     f = headed (x .status) (x .len) (x .left .bytes)
 
     go : (t : Bool) → x .restart ≡ t → Numbered (spokenTo x on (spokenBy (x .restart) wait (flagsOf (x .left .bytes)) (sendOf 52 f room)))
-    go true e = rw e (record { loud = refl; closes = refl })
-    go false e = rw e (record { loud = refl; closes = refl })
+    go true e = rw e (record { loud = refl; closes = refl; few = omega arith })
+    go false e = rw e (record { loud = refl; closes = refl; few = omega arith })
 
 pub numbered : (s : Setup) (status : ℕ) (h : Held) (on : Bool) → s .«id_len» ≤ 16 → Fit s h → (room : List ℕ) → Numbered (dispatchOf 52 64 s status h on room)
 numbered s status h on i w =
-    dispatch-all s status h on i w (λ (e : List ℕ → Ending). (room : List ℕ) → Numbered (e room)) (λ g b v room. record { loud = refl; closes = refl })
+    dispatch-all s status h on i w (λ (e : List ℕ → Ending). (room : List ℕ) → Numbered (e room)) (λ g b v room. record { loud = refl; closes = refl; few = omega arith })
     (answered-number s)

@@ -12,10 +12,7 @@ use Rattle.device.specs.declared.State.{State}
 use Rattle.device.specs.Refusals.{setUp, wellFormed}
 use Rattle.feed.specs.Feed.{Called, fedOf, refusedBy}
 use Rattle.demands.specs.Stream.{Story, first, storyOf}
-
--- a device: what a call leaves, of setup, state, piece, flash, record and reply room
-abbrev pub Device : Type 0
-Device = Setup → State → List ℕ → List ℕ → List ℕ → List ℕ → Called
+use Rattle.demands.specs.Devices.{Device, acknowledging, greedy}
 
 -- ours, by the definition that `feed` is proved to meet
 abbrev pub ours : Device
@@ -57,6 +54,9 @@ pub data Runs (d : Device) (s : Setup) : World → List ℕ → Story → Type 0
   stop : {w : World} {l : List ℕ} (x m room : List ℕ) → l ≡ x ++ m → 64 ≤ length room →
       (call d s w x room .told .number ≡ 3) ⊎ (drop (call d s w x room .taken) l ≡ []) → Runs d s w l (noted (call d s w x room) (stopped (call d s w x room)))
 
--- what they come to is the story of the uncut stream
-abbrev pub Demand3 : Device → Type 0
-Demand3 d = (s : Setup) (w : World) → Good s w → (l : List ℕ) (t : Story) → Runs d s w l t → t ≡ storyOf 52 64 s (w .state) l (w .flash) (w .meta)
+-- demand 3 of a device: what calls come to is the story of the uncut stream, and after an accepted Reset nothing more is taken
+pub record Demand3 (d : Device) : Type 0 where
+  pub uncut : (s : Setup) (w : World) → Good s w → (l : List ℕ) (t : Story) → Runs d s w l t → t ≡ storyOf 52 64 s (w .state) l (w .flash) (w .meta)
+  pub closed : (s : Setup) (w : World) → Good s w → (x room : List ℕ) → 64 ≤ length room → call d s w x room .told .number ≡ 3 →
+      (y other : List ℕ) → 64 ≤ length other →
+      call d s (after (call d s w x room)) y other ≡ refusedBy 15 (call d s w x room .state) (call d s w x room .flash) (call d s w x room .meta) other

@@ -1,3 +1,4 @@
 pub mod Stream
-pub mod Sheet
+pub mod Devices
 pub mod Demand
+pub mod Sheet
