@@ -5,3 +5,4 @@ pub mod Rooms
 pub mod Stored
 pub mod Calls
 pub mod Cut
+pub mod Wrong

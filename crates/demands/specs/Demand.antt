@@ -12,7 +12,7 @@ use Rattle.device.specs.declared.State.{State}
 use Rattle.device.specs.Refusals.{setUp, wellFormed}
 use Rattle.feed.specs.Feed.{Called, fedOf, refusedBy}
 use Rattle.demands.specs.Stream.{Story, first, storyOf}
-use Rattle.demands.specs.Devices.{Device, acknowledging, greedy}
+use Rattle.demands.specs.Devices.{Device}
 
 -- ours, by the definition that `feed` is proved to meet
 abbrev pub ours : Device

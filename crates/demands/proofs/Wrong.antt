@@ -1,0 +1,54 @@
+-- Two wrong devices do not meet demand 3: one that works at first and later only acknowledges, and one that invents how much it took.
+use Prim.Native.Nat.{ℕ}
+use mathlib.Core.Path.{_≡_, refl, ap}
+use mathlib.Core.Bool.{false}
+use mathlib.Core.Logic.{inr}
+use mathlib.Core.List.{List, [], _∷_, _++_}
+use native.Mathlib.Omega.{arith}
+use lib.ListN.{length, replicate}
+use Rattle.laws.specs.Fold.{fold}
+use Rattle.tinyboot_protocol.specs.Crc.{entered, bits, bitsOf, crcFrom}
+use Rattle.tinyboot_protocol.specs.Reading.{hunt, overhears, verdictOf, checked, started}
+use Rattle.tinyboot_protocol.specs.Stored.{begun, store, wellOf}
+use Rattle.tinyboot_protocol.specs.Sent.{sealed, sendOf}
+use Rattle.device.specs.declared.Setup.{Setup}
+use Rattle.device.specs.Refusals.{eraseFits, capacityFits, setUp, runFits, wellFormed, lengthsOf, refusalOf}
+use Rattle.device.specs.Starts.{newState}
+use Rattle.dispatcher.specs.Dispatch.{replyOf, answeredOf, obeyedOf, unaddressedOf, dispatchOf}
+use Rattle.feed.specs.Feed.{afterRead, takenOf, fedOf}
+use Rattle.demands.specs.Stream.{Story, streamOf}
+use Rattle.demands.specs.Devices.{acknowledging, greedy}
+use Rattle.demands.specs.Demand.{World, Good, Runs, next, stop, Demand3}
+use Rattle.demands.specs.Sheet.{header, blank}
+
+-- a new unaddressed module of 64 bytes
+abbrev module-of-64 : Setup
+module-of-64 = record { «erase_size» = 64; capacity = 64; id = replicate {A = ℕ} 16 0; «id_len» = 0; version = 0; key = 0xFFFFFFFF }
+
+abbrev fresh : World
+fresh = record { state = newState 52 64 false; flash = blank 64; meta = blank 12 }
+
+good : Good module-of-64 fresh
+unfolding setUp eraseFits capacityFits wellFormed runFits wellOf
+good = record { setup = refl; whole = refl; formed = refl; unclosed = refl; flash = refl; meta = refl }
+
+abbrev room : List ℕ
+room = replicate {A = ℕ} 64 0
+
+-- a command that is none, and an AA behind it: the AA is lost
+pub greedy-fails : Demand3 greedy → ⊥
+unfolding fedOf takenOf afterRead refusalOf setUp eraseFits capacityFits wellFormed runFits lengthsOf wellOf begun store hunt started verdictOf overhears checked dispatchOf unaddressedOf obeyedOf answeredOf replyOf sendOf sealed streamOf crcFrom bitsOf bits entered fold
+greedy-fails d =
+    let l : List ℕ = header 6 0 0 ++ (0xAA ∷ []) in
+    let t = d .uncut module-of-64 fresh good l _ (stop l [] room refl (omega arith) (inr refl)) in
+    let z : _≡_ {A = ℕ} 0 1 = ap (λ (v : Story). v .state .frame .got) t in
+    omega arith
+
+-- the same command, and a call with nothing: a frame is answered that never came
+pub acknowledging-fails : Demand3 acknowledging → ⊥
+unfolding fedOf takenOf afterRead refusalOf setUp eraseFits capacityFits wellFormed runFits lengthsOf wellOf begun store hunt started verdictOf overhears checked dispatchOf unaddressedOf obeyedOf answeredOf replyOf sendOf sealed streamOf crcFrom bitsOf bits entered fold
+acknowledging-fails d =
+    let l : List ℕ = header 6 0 0 in
+    let t = d .uncut module-of-64 fresh good l _ (next l [] room refl (omega arith) (λ e. omega arith) (stop [] [] room refl (omega arith) (inr refl))) in
+    let z : _≡_ {A = ℕ} 2 1 = ap (λ (v : Story). length (v .events)) t in
+    omega arith
