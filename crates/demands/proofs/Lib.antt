@@ -6,3 +6,4 @@ pub mod Stored
 pub mod Calls
 pub mod Cut
 pub mod Wrong
+pub mod Pieces
