@@ -7,3 +7,4 @@ pub mod Calls
 pub mod Cut
 pub mod Wrong
 pub mod Pieces
+pub mod Determined
