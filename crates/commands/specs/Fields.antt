@@ -5,7 +5,7 @@ use mathlib.Core.List.{List, [], _∷_}
 use lib.ListN.{getD, take, drop}
 use lib.Dec.{eqb}
 use Rattle.laws.specs.Low.{lowFirst}
-use Rattle.tinyboot_protocol.specs.Reading.{lenOf}
+use Rattle.frames.specs.Reading.{lenOf}
 use Rattle.platform.specs.State.{stateRead}
 use Rattle.platform.specs.Record.{stateOf}
 

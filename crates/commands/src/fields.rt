@@ -19,7 +19,7 @@ pub(crate) fn flags(f: &[u8; 64]) -> u8
 }
 
 // Whether an update is under way.
-pub(crate) fn is_updating(meta: &[u8]) -> bool
+pub fn is_updating(meta: &[u8]) -> bool
     ensures { λ r. ⌜ r ≡ updating (now (meta .entry)) ⌝ }
 {
     let state = boot_meta_store::boot_state(meta);

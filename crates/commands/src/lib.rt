@@ -1,7 +1,6 @@
 // The commands, a file each. Translated from tinyboot, lib/core/src/protocol.rs (MIT OR Apache-2.0); changed: each is a leaf over lent arrays.
 pub mod erase;
-mod fields;
+pub mod fields;
 pub mod info;
 pub mod reset;
 pub mod verify;
-pub mod write;

@@ -11,14 +11,14 @@ use lib.Seq.{drop-at, length-take-le}
 use lib.Dec.{eqb, leb, ltb}
 use Rattle.laws.specs.Pick.{pick}
 use Rattle.laws.proofs.Bools.{and-both}
-use Rattle.tinyboot_protocol.specs.declared.frame.Kind.{Kind}
-use Rattle.tinyboot_protocol.specs.declared.frame.End.the-variants.{Going}
-use Rattle.tinyboot_protocol.specs.Reading.{kindStatus, Outcome, Begun, Ended, readFrame}
-use Rattle.tinyboot_protocol.specs.Stored.{Said, quiet, ended, refused, Read, begun, store, ready, outOf, wellOf, readOf, Well, After}
-use Rattle.tinyboot_protocol.proofs.Cut.{cut-ended}
-use Rattle.tinyboot_protocol.proofs.Start.{Started, start-of}
-use Rattle.tinyboot_protocol.proofs.Anywhere.{after-begun, left, cut-going}
-use Rattle.commands.proofs.Runs.{Pending}
+use Rattle.frames.specs.declared.frame.Kind.{Kind}
+use Rattle.frames.specs.declared.frame.End.the-variants.{Going}
+use Rattle.frames.specs.Reading.{kindStatus, Outcome, Begun, Ended, readFrame}
+use Rattle.frames.specs.Stored.{Said, quiet, ended, refused, Read, begun, store, ready, outOf, wellOf, readOf, Well, After}
+use Rattle.frames.proofs.Cut.{cut-ended}
+use Rattle.frames.proofs.Start.{Started, start-of}
+use Rattle.frames.proofs.Anywhere.{after-begun, left, cut-going}
+use Rattle.writes.proofs.Runs.{Pending}
 use Rattle.device.specs.declared.Setup.{Setup}
 use Rattle.device.specs.declared.State.{State}
 use Rattle.device.specs.Refusals.{eraseFits, capacityFits, setUp, runFits, wellFormed, lengthsOf, refusalOf}

@@ -10,10 +10,10 @@ use lib.ListN.{length, take, drop, replicate, length-append}
 use lib.Seq.{drop-at}
 use lib.Dec.{eqb}
 use Rattle.laws.specs.Pick.{pick}
-use Rattle.tinyboot_protocol.specs.declared.frame.Kind.{Kind}
-use Rattle.tinyboot_protocol.specs.Reading.{hunt, Outcome, Begun, Ended, readFrame}
-use Rattle.tinyboot_protocol.specs.Stored.{begun, store, ready}
-use Rattle.tinyboot_protocol.proofs.Storing.{begun-part}
+use Rattle.frames.specs.declared.frame.Kind.{Kind}
+use Rattle.frames.specs.Reading.{hunt, Outcome, Begun, Ended, readFrame}
+use Rattle.frames.specs.Stored.{begun, store, ready}
+use Rattle.frames.proofs.Storing.{begun-part}
 use Rattle.device.specs.declared.Setup.{Setup}
 use Rattle.device.specs.declared.State.{State}
 use Rattle.handler.specs.Handling.{Held, held}

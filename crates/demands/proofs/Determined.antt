@@ -14,11 +14,11 @@ use Rattle.tinyboot_protocol.specs.declared.CmdFound.{CmdFound}
 use Rattle.tinyboot_protocol.specs.declared.StatusFound.{StatusFound}
 use Rattle.tinyboot_protocol.specs.declared.BaudFound.{BaudFound}
 use Rattle.tinyboot_protocol.specs.declared.BaudRate.{BaudRate}
-use Rattle.tinyboot_protocol.specs.declared.frame.Stop.{Stop}
+use Rattle.frames.specs.declared.frame.Stop.{Stop}
 use Rattle.tinyboot_protocol.specs.Names.{statusNumber, modeNumber, cmdFoundOf, statusFoundOf}
 use Rattle.tinyboot_protocol.specs.Baud.{baudIndex, baudFoundOf}
-use Rattle.tinyboot_protocol.specs.Stored.{Said, saidOf, Read, seen}
-use Rattle.tinyboot_protocol.specs.Sent.{Sent, sent}
+use Rattle.frames.specs.Stored.{Said, saidOf, Read, seen}
+use Rattle.frames.specs.Sent.{Sent, sent}
 use Rattle.tinyboot_protocol.proofs.Apart.{cmd-found-apart, status-apart, status-found-apart, mode-apart, rate-apart, rate-found-apart}
 use Rattle.platform.specs.declared.storage.Stored.{Stored}
 use Rattle.platform.specs.declared.boot_meta_store.Step.{Step}
@@ -34,11 +34,11 @@ use Rattle.tinyboot_core.specs.Select.{Choice, choiceOf}
 use Rattle.tinyboot_core.specs.Start.{Decision, decided}
 use Rattle.tinyboot_core.proofs.Selecting.{one-result}
 use Rattle.commands.specs.declared.verify.Verdict.{Verdict}
-use Rattle.commands.specs.declared.write.Ran.{Ran}
+use Rattle.writes.specs.declared.write.Ran.{Ran}
 use Rattle.commands.specs.Erase.{Erased, erasedTo}
 use Rattle.commands.specs.Reset.{Resets, resetsTo}
 use Rattle.commands.specs.Verify.{Verified, verifiedTo}
-use Rattle.commands.specs.Write.{Wrote, wroteTo}
+use Rattle.writes.specs.Write.{Wrote, wroteTo}
 use Rattle.device.specs.declared.refusal.Refusal.{Refusal}
 use Rattle.device.specs.declared.start.Started.{Started}
 use Rattle.device.specs.Refusals.{refusalNumber}

@@ -9,20 +9,20 @@ use lib.ListN.{length, take, drop, length-take, length-set}
 use lib.Dec.{eqb, leb}
 use Rattle.laws.specs.Pick.{pick}
 use Rattle.laws.specs.Over.{over}
-use Rattle.tinyboot_protocol.specs.Reading.{lenOf, cmdOf}
-use Rattle.tinyboot_protocol.specs.Stored.{ready}
-use Rattle.tinyboot_protocol.specs.Sent.{wire, Sent, sendOf, sealed, sent}
-use Rattle.tinyboot_protocol.proofs.Sealing.{sealed-length}
+use Rattle.frames.specs.Reading.{lenOf, cmdOf}
+use Rattle.frames.specs.Stored.{ready}
+use Rattle.frames.specs.Sent.{wire, Sent, sendOf, sealed, sent}
+use Rattle.frames.proofs.Sealing.{sealed-length}
 use Rattle.tinyboot_core.specs.Select.{Choice, copied, selectOf}
 use Rattle.tinyboot_core.proofs.Selecting.{bytes-copied, select-length}
 use Rattle.commands.specs.Fields.{Unsupported}
 use Rattle.commands.specs.Erase.{eraseOf}
-use Rattle.commands.specs.Write.{cmdWriteOf}
+use Rattle.writes.specs.Write.{cmdWriteOf}
 use Rattle.commands.specs.Verify.{Verified, verifyOf}
 use Rattle.commands.specs.Info.{infoOf, infoLaid}
 use Rattle.commands.specs.Reset.{resetOf}
 use Rattle.commands.proofs.Erasing.{erase-flash-length, erase-meta-length}
-use Rattle.commands.proofs.Runs.{Pending, write-lengths, write-pending}
+use Rattle.writes.proofs.Runs.{Pending, write-lengths, write-pending}
 use Rattle.commands.proofs.Verifying.{verify-length}
 use Rattle.commands.proofs.Informing.{info-length, laid-length}
 use Rattle.commands.proofs.Resetting.{reset-length}

@@ -6,8 +6,8 @@ use mathlib.Core.List.{List, [], _++_, append-assoc, append-nil}
 use native.Mathlib.Omega.{arith}
 use lib.ListN.{length, take, drop, take-append-drop}
 use lib.Seq.{drop-at, length-take-le}
-use Rattle.tinyboot_protocol.specs.Reading.{Outcome, Begun, Ended, readFrame}
-use Rattle.tinyboot_protocol.specs.Stored.{begun}
+use Rattle.frames.specs.Reading.{Outcome, Begun, Ended, readFrame}
+use Rattle.frames.specs.Stored.{begun}
 use Rattle.device.specs.declared.Setup.{Setup}
 use Rattle.feed.specs.Feed.{Called}
 use Rattle.demands.specs.Stream.{Story, storyOf}

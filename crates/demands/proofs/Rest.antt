@@ -10,11 +10,11 @@ use lib.ListN.{length, getD, take, drop, length-append, length-take}
 use lib.Seq.{drop-at, drop-append-add}
 use lib.Dec.{eqb, leb}
 use Rattle.laws.specs.Pick.{pick}
-use Rattle.tinyboot_protocol.specs.declared.frame.Kind.{Kind}
-use Rattle.tinyboot_protocol.specs.Reading.{Hunt, Open, Sync, hunt, started, fromHunt, lenOf, Outcome, Begun, Ended, readFrame}
-use Rattle.tinyboot_protocol.specs.Stored.{begun}
-use Rattle.tinyboot_protocol.proofs.Cut.{started-begun}
-use Rattle.tinyboot_protocol.proofs.Reading.{Split, split-of}
+use Rattle.frames.specs.declared.frame.Kind.{Kind}
+use Rattle.frames.specs.Reading.{Hunt, Open, Sync, hunt, started, fromHunt, lenOf, Outcome, Begun, Ended, readFrame}
+use Rattle.frames.specs.Stored.{begun}
+use Rattle.frames.proofs.Cut.{started-begun}
+use Rattle.frames.proofs.Reading.{Split, split-of}
 
 -- y is what is left of l after a front of so many bytes or more
 pub record Front (least : ℕ) (l y : List ℕ) : Type 0 where

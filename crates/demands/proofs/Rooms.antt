@@ -9,10 +9,10 @@ use lib.ListN.{length, take, drop}
 use lib.Seq.{take-at, length-take-le}
 use lib.Dec.{eqb, leb}
 use Rattle.laws.specs.Over.{over}
-use Rattle.tinyboot_protocol.specs.Reading.{lenOf}
-use Rattle.tinyboot_protocol.specs.Stored.{ready}
-use Rattle.tinyboot_protocol.specs.Sent.{wire, sealed, Sent, sent, sendOf}
-use Rattle.tinyboot_protocol.proofs.Sealing.{sealed-length, sealed-part}
+use Rattle.frames.specs.Reading.{lenOf}
+use Rattle.frames.specs.Stored.{ready}
+use Rattle.frames.specs.Sent.{wire, sealed, Sent, sent, sendOf}
+use Rattle.frames.proofs.Sealing.{sealed-length, sealed-part}
 use Rattle.tinyboot_protocol.specs.Flags.{bitOf}
 use Rattle.commands.specs.Fields.{flagsOf}
 use Rattle.device.specs.declared.Setup.{Setup}

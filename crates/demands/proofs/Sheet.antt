@@ -2,9 +2,9 @@
 use mathlib.Core.Path.{refl}
 use Rattle.laws.specs.Fold.{fold}
 use Rattle.tinyboot_protocol.specs.Crc.{entered, bits, bitsOf, crcFrom}
-use Rattle.tinyboot_protocol.specs.Reading.{hunt, overhears, verdictOf, checked, started}
-use Rattle.tinyboot_protocol.specs.Stored.{begun, store}
-use Rattle.tinyboot_protocol.specs.Sent.{sealed, sendOf}
+use Rattle.frames.specs.Reading.{hunt, overhears, verdictOf, checked, started}
+use Rattle.frames.specs.Stored.{begun, store}
+use Rattle.frames.specs.Sent.{sealed, sendOf}
 use Rattle.tinyboot_core.specs.Select.{agree, matches, slotOf, copied, selectOf}
 use Rattle.tinyboot_core.specs.Start.{validOf, triedOf, clearedOf, startOf}
 use Rattle.platform.specs.State.{stateRead, appPresent}
@@ -12,7 +12,7 @@ use Rattle.platform.specs.Flash.{written, erased}
 use Rattle.platform.specs.Flash as flash
 use Rattle.platform.specs.Record.{stepped, stepAnswer}
 use Rattle.commands.specs.Erase.{eraseFits, readied, stuck, eraseOf}
-use Rattle.commands.specs.Write.{took, poured, flushed, writeFits, writtenOf, cmdWriteOf}
+use Rattle.writes.specs.Write.{took, poured, flushed, writeFits, writtenOf, cmdWriteOf}
 use Rattle.commands.specs.Verify.{keyFits, verifyOf}
 use Rattle.commands.specs.Info.{appVersion, infoOf}
 use Rattle.handler.specs.Handling.{handledOf}

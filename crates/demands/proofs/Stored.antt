@@ -11,13 +11,13 @@ use lib.Seq.{length-take-le}
 use lib.Dec.{ltb}
 use Rattle.laws.specs.Pick.{pick}
 use Rattle.laws.specs.Over.{over}
-use Rattle.tinyboot_protocol.specs.declared.frame.Kind.{Kind}
-use Rattle.tinyboot_protocol.specs.declared.frame.End.{End}
-use Rattle.tinyboot_protocol.specs.declared.frame.End.the-variants.{Going, Over}
-use Rattle.tinyboot_protocol.specs.Reading.{Hunt, Open, Sync, hunt, verdictOf, checked, judged, started, fromHunt, lenOf, Outcome, Begun, Ended, readFrame}
-use Rattle.tinyboot_protocol.specs.Stored.{store, ready}
-use Rattle.tinyboot_protocol.proofs.Reading.{Split, split-of, going-size, size-take}
-use Rattle.tinyboot_protocol.proofs.Storing.{store-short}
+use Rattle.frames.specs.declared.frame.Kind.{Kind}
+use Rattle.frames.specs.declared.frame.End.{End}
+use Rattle.frames.specs.declared.frame.End.the-variants.{Going, Over}
+use Rattle.frames.specs.Reading.{Hunt, Open, Sync, hunt, verdictOf, checked, judged, started, fromHunt, lenOf, Outcome, Begun, Ended, readFrame}
+use Rattle.frames.specs.Stored.{store, ready}
+use Rattle.frames.proofs.Reading.{Split, split-of, going-size, size-take}
+use Rattle.frames.proofs.Storing.{store-short}
 use Rattle.demands.proofs.Keeping.{Synced, take-two}
 
 module _ (cap : ℕ) (device : Bool) where

@@ -8,9 +8,9 @@ use native.Mathlib.Omega.{arith}
 use lib.ListN.{length, replicate}
 use Rattle.laws.specs.Fold.{fold}
 use Rattle.tinyboot_protocol.specs.Crc.{entered, bits, bitsOf, crcFrom}
-use Rattle.tinyboot_protocol.specs.Reading.{hunt, overhears, verdictOf, checked, started}
-use Rattle.tinyboot_protocol.specs.Stored.{begun, store, wellOf}
-use Rattle.tinyboot_protocol.specs.Sent.{sealed, sendOf}
+use Rattle.frames.specs.Reading.{hunt, overhears, verdictOf, checked, started}
+use Rattle.frames.specs.Stored.{begun, store, wellOf}
+use Rattle.frames.specs.Sent.{sealed, sendOf}
 use Rattle.device.specs.declared.Setup.{Setup}
 use Rattle.device.specs.Refusals.{eraseFits, capacityFits, setUp, runFits, wellFormed, lengthsOf, refusalOf}
 use Rattle.device.specs.Starts.{newState}

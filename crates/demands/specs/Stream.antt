@@ -4,8 +4,8 @@ use mathlib.Core.Bool.{Bool, true, false}
 use mathlib.Core.List.{List, [], _∷_, _++_}
 use lib.ListN.{length, take, replicate}
 use Rattle.laws.specs.Pick.{pick}
-use Rattle.tinyboot_protocol.specs.Reading.{kindStatus, Outcome, Begun, Ended, readFrame}
-use Rattle.tinyboot_protocol.specs.Stored.{begun, store, ready}
+use Rattle.frames.specs.Reading.{kindStatus, Outcome, Begun, Ended, readFrame}
+use Rattle.frames.specs.Stored.{begun, store, ready}
 use Rattle.device.specs.declared.Setup.{Setup}
 use Rattle.device.specs.declared.State.{State}
 use Rattle.dispatcher.specs.Answers.{Told}

@@ -4,7 +4,7 @@ use mathlib.Core.Bool.{Bool, true, false, not, _&&_}
 use mathlib.Core.List.{List}
 use lib.Dec.{leb, ltb, eqb}
 use Rattle.laws.specs.Pick.{pick}
-use Rattle.tinyboot_protocol.specs.Stored.{wellOf}
+use Rattle.frames.specs.Stored.{wellOf}
 use Rattle.device.specs.declared.Setup.{Setup}
 use Rattle.device.specs.declared.refusal.Refusal.{Refusal}
 

@@ -6,7 +6,7 @@ use lib.ListN.{length, replicate}
 use lib.Dec.{eqb}
 use Rattle.laws.specs.Pick.{pick}
 use Rattle.tinyboot_protocol.specs.Names.{modeNumber}
-use Rattle.tinyboot_protocol.specs.Stored.{newFrame, framed}
+use Rattle.frames.specs.Stored.{newFrame, framed}
 use Rattle.tinyboot_core.specs.Start.{Decision, startOf}
 use Rattle.device.specs.declared.Setup.{Setup}
 use Rattle.device.specs.declared.State.{State}

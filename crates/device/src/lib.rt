@@ -3,7 +3,7 @@
 pub mod refusal;
 pub mod start;
 
-use tinyboot_protocol::frame::Frame;
+use frames::frame::Frame;
 
 // The numbers that a device is built with. An id of length 0 is an unaddressed device; id bytes past the length count for nothing.
 pub struct Setup {

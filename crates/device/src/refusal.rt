@@ -1,7 +1,7 @@
 // When a call refuses. Ours: the Rust's types rule these out, or it does not look.
 
 use crate::Setup;
-use tinyboot_protocol::frame;
+use frames::frame;
 ghost use mathlib.Core.Path.{_≡_};
 ghost use lib.Dec.{eqb};
 ghost use Rattle.device.specs.Refusals.{eraseFits, capacityFits, setUp, runFits, wellFormed, refusalNumber, lengthsOf, refusalOf};

@@ -5,7 +5,7 @@ use mathlib.Core.Bool.{Bool, true, false}
 use mathlib.Core.List.{List}
 use lib.Dec.{eqb}
 use Rattle.tinyboot_protocol.specs.Flags.{bitOf}
-use Rattle.tinyboot_protocol.specs.Sent.{Sent, sendOf}
+use Rattle.frames.specs.Sent.{Sent, sendOf}
 use Rattle.tinyboot_core.specs.Select.{Choice}
 use Rattle.commands.specs.Fields.{flagsOf}
 use Rattle.device.specs.declared.Setup.{Setup}

@@ -3,6 +3,7 @@
 
 use crate::Answer;
 use device::Setup;
+use frames::frame;
 use handler::Handled;
 use tinyboot_core::addressing;
 use tinyboot_core::addressing::MAX_UID_LEN;
@@ -10,7 +11,6 @@ use tinyboot_core::addressing::Selected;
 use tinyboot_protocol::Cmd;
 use tinyboot_protocol::ResetFlags;
 use tinyboot_protocol::Status;
-use tinyboot_protocol::frame;
 use tinyboot_protocol::le;
 ghost use mathlib.Core.Path.{_≡_};
 ghost use mathlib.Core.Bool.{true, false};
@@ -19,7 +19,7 @@ ghost use Prim.Native.Nat.{ℕ, _≤_};
 ghost use lib.Dec.{eqb};
 ghost use lib.ListN.{length, take};
 ghost use Rattle.tinyboot_protocol.specs.Names.{statusNumber};
-ghost use Rattle.tinyboot_protocol.specs.Reading.{cmdOf};
+ghost use Rattle.frames.specs.Reading.{cmdOf};
 ghost use Rattle.tinyboot_core.specs.Select.{selectOf};
 ghost use Rattle.commands.specs.Fields.{flagsOf};
 ghost use Rattle.dispatcher.specs.Answers.{toldOf};

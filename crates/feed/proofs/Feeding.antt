@@ -9,8 +9,8 @@ use native.Mathlib.Omega.{arith}
 use borrow.Author.Tests.{eqb-true}
 use Rattle.laws.specs.Pick.{pick}
 use Rattle.laws.proofs.Bools.{and-both}
-use Rattle.tinyboot_protocol.specs.Reading.{readFrame}
-use Rattle.tinyboot_protocol.specs.Stored.{framed, begun, ready, Read, outOf, wellOf, readOf}
+use Rattle.frames.specs.Reading.{readFrame}
+use Rattle.frames.specs.Stored.{framed, begun, ready, Read, outOf, wellOf, readOf}
 use Rattle.device.specs.declared.Setup.{Setup}
 use Rattle.device.specs.declared.State.{State}
 use Rattle.device.specs.Refusals.{setUp, wellFormed, runFits, lengthsOf, refusalOf}

@@ -8,9 +8,9 @@ use lib.ListN.{take, replicate}
 use Rattle.laws.specs.Fold.{fold}
 use Rattle.laws.specs.Low.{lowBytes}
 use Rattle.tinyboot_protocol.specs.Crc.{entered, bits, bitsOf, crcFrom}
-use Rattle.tinyboot_protocol.specs.Reading.{hunt, overhears, verdictOf, checked, started}
-use Rattle.tinyboot_protocol.specs.Stored.{begun, store, wellOf}
-use Rattle.tinyboot_protocol.specs.Sent.{sealed, sendOf}
+use Rattle.frames.specs.Reading.{hunt, overhears, verdictOf, checked, started}
+use Rattle.frames.specs.Stored.{begun, store, wellOf}
+use Rattle.frames.specs.Sent.{sealed, sendOf}
 use Rattle.tinyboot_core.specs.Select.{agree, matches, slotOf, copied, selectOf}
 use Rattle.platform.specs.State.{stateRead, appPresent}
 use Rattle.commands.specs.Info.{appVersion, infoOf}

@@ -5,8 +5,8 @@ use mathlib.Core.List.{List, _++_}
 use lib.ListN.{length}
 use lib.Dec.{eqb}
 use Rattle.laws.specs.Pick.{pick}
-use Rattle.tinyboot_protocol.specs.Reading.{readFrame}
-use Rattle.tinyboot_protocol.specs.Stored.{framed, begun, ready, Read, outOf}
+use Rattle.frames.specs.Reading.{readFrame}
+use Rattle.frames.specs.Stored.{framed, begun, ready, Read, outOf}
 use Rattle.device.specs.declared.Setup.{Setup}
 use Rattle.device.specs.declared.State.{State}
 use Rattle.device.specs.Refusals.{refusalOf}

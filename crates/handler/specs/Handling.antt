@@ -5,12 +5,12 @@ use mathlib.Core.List.{List}
 use lib.ListN.{set}
 use lib.Dec.{eqb}
 use Rattle.laws.specs.Pick.{pick}
-use Rattle.tinyboot_protocol.specs.Reading.{cmdOf}
+use Rattle.frames.specs.Reading.{cmdOf}
 use Rattle.tinyboot_protocol.specs.Names.{statusNumber}
 use Rattle.tinyboot_protocol.specs.declared.Status.{Status}
 use Rattle.commands.specs.Fields.{Ok, Unsupported}
 use Rattle.commands.specs.Erase.{Erased, eraseOf}
-use Rattle.commands.specs.Write.{Wrote, cmdWriteOf}
+use Rattle.writes.specs.Write.{Wrote, cmdWriteOf}
 use Rattle.commands.specs.Verify.{Verified, verifyOf}
 use Rattle.commands.specs.Info.{infoOf, infoLaid}
 use Rattle.commands.specs.Reset.{Resets, resetOf}

@@ -1,15 +1,6 @@
 pub mod Serial
 pub mod Bytes
 pub mod Apart
-pub mod Cut
-pub mod Reading
-pub mod Storing
-pub mod Steps
-pub mod Start
-pub mod Loop
-pub mod Anywhere
-pub mod Sealing
-pub mod Vectors
 pub mod Keys
 pub mod Rates
 pub mod Versions

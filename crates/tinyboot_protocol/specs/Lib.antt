@@ -1,11 +1,7 @@
 pub mod Crc
 pub mod CrcSteps
 pub mod Names
-pub mod Reading
-pub mod Stored
-pub mod Sent
 pub mod Flags
-pub mod Info
 pub mod Key
 pub mod Baud
 pub mod Version

@@ -1,8 +1,6 @@
 // Translated from tinyboot, lib/protocol/src/lib.rs (MIT OR Apache-2.0); changed.
 pub mod crc;
-pub mod frame;
 pub mod le;
-pub mod sync;
 
 ghost use mathlib.Core.Path.{_≡_};
 ghost use Prim.Native.Nat.{_*_, _%_, _^_};

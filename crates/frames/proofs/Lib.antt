@@ -1,0 +1,9 @@
+pub mod Cut
+pub mod Reading
+pub mod Storing
+pub mod Steps
+pub mod Start
+pub mod Loop
+pub mod Anywhere
+pub mod Sealing
+pub mod Vectors

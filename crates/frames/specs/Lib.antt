@@ -1,0 +1,4 @@
+pub mod Reading
+pub mod Stored
+pub mod Sent
+pub mod Info

@@ -1,0 +1,53 @@
+use mathlib.Core.Path.{sym, _∙_}
+use Rattle.writes.specs.Write.{running}
+use Rattle.writes.proofs.Writing.{write-idle, write-astray, write-done}
+use borrow.Author.Needs.{needs}
+use Rattle.writes.proofs.write.cmd_write.Statement.{statement}
+use Rattle.writes.proofs.write.cmd_write.Tie as tie
+
+is-updating-requires : tie.Need-is-updating-requires
+is-updating-requires c κs = search needs
+
+fits-requires : tie.Need-fits-requires
+fits-requires c κs = search needs
+
+written-requires : tie.Need-written-requires
+written-requires c κs = search needs
+
+status-of-requires : tie.Need-status-of-requires
+status-of-requires c κs = search needs
+
+same-length : tie.Need-same-length
+same-length c = search needs
+
+returns : tie.Need-returns
+returns c =
+    let a = c .before .before .before .before .before .before .before .before .before .before .before .before .before .args in
+    let w = c .before .before .before .written in
+    write-done (a .capacity) (a .f .now) (a .flash .now) (a .page .now) (a .fill) (a .next) (a .meta .now)
+    (sym (c .before .before .before .before .before .before .before .before .before .before .is-updating .ensures) ∙ c .before .before .before .before .before .before .before .before .before .if1 .taken) (sym (c .before .before .before .before .before .before .before .before .fits2 .ensures) ∙ c .before .before .before .before .before .before .before .if2 .taken)
+    (running (w .last .1 .1 .0) (w .last .1 .0) (w .result .fill) (w .result .next) (w .result .failed)) (w .ensures) _ (c .status-of .ensures)
+
+returns-2 : tie.Need-returns-2
+returns-2 c =
+    let a = c .before .before .before .before .before .before .args in
+    write-astray (a .capacity) (a .f .now) (a .flash .now) (a .page .now) (a .fill) (a .next) (a .meta .now)
+    (sym (c .before .before .before .is-updating .ensures) ∙ c .before .before .if1 .taken) (sym (c .before .fits2 .ensures) ∙ c .if2 .left)
+
+returns-3 : tie.Need-returns-3
+returns-3 c =
+    let a = c .before .before .before .before .args in
+    write-idle (a .capacity) (a .f .now) (a .flash .now) (a .page .now) (a .fill) (a .next) (a .meta .now) (sym (c .before .is-updating .ensures) ∙ c .if1 .left)
+
+pub cmd-write-spec : {M : Type 1} → statement M
+cmd-write-spec =
+    tie.close
+    (tie.spec
+    is-updating-requires
+    fits-requires
+    written-requires
+    status-of-requires
+    same-length
+    returns
+    returns-2
+    returns-3)

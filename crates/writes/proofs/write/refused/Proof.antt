@@ -1,0 +1,29 @@
+use mathlib.Core.Path.{refl}
+use borrow.Author.Needs.{needs}
+use Rattle.writes.proofs.write.refused.Statement.{statement}
+use Rattle.writes.proofs.write.refused.Tie as tie
+
+returns : tie.Need-returns
+returns c = search needs
+
+enum-told : tie.Need-enum-told
+enum-told c = search needs
+
+enum-told-2 : tie.Need-enum-told-2
+enum-told-2 c = search needs
+
+enum-told-3 : tie.Need-enum-told-3
+enum-told-3 c = search needs
+
+returns-2 : tie.Need-returns-2
+returns-2 c = rw (c .before .before .if1 .left, c .enum-told .given .1) refl
+
+returns-3 : tie.Need-returns-3
+returns-3 c = rw (c .before .before .if1 .left, c .enum-told2 .given .1) refl
+
+returns-4 : tie.Need-returns-4
+returns-4 c = rw (c .before .before .if1 .left, c .enum-told3 .given .1) refl
+
+pub refused-spec : {M : Type 1} → statement M
+refused-spec =
+    tie.close (tie.spec returns enum-told enum-told-2 enum-told-3 returns-2 returns-3 returns-4)
