@@ -1,7 +1,7 @@
 // What `d` shows of the bench.
 use crate::module::Bench;
 use crate::show;
-use platform::cells::first;
+use flash::cells::first;
 use tinyboot_protocol::crc::CRC_INIT;
 use tinyboot_protocol::crc::crc16;
 

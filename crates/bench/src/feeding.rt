@@ -6,7 +6,7 @@ use crate::starting;
 use dispatcher::Answer;
 use feed::Passed;
 use feed::feed_in;
-use platform::cells::first;
+use flash::cells::first;
 use tinyboot_protocol::RunMode;
 ghost use mathlib.Core.Path.{_≡_};
 ghost use Rattle.tinyboot_protocol.specs.Names.{modeNumber};

@@ -1,5 +1,5 @@
 // Numbers in the bytes of a line.
-use platform::cells::byte_at;
+use flash::cells::byte_at;
 use tinyboot_protocol::le;
 ghost use mathlib.Core.Path.{_≡_};
 ghost use Prim.Native.Nat.{_<_};

@@ -9,9 +9,9 @@ use crate::module::Bench;
 use crate::numbers;
 use crate::show;
 use crate::starting;
-use platform::cells::byte_at;
-use platform::cells::first;
-use platform::cells::lay;
+use flash::cells::byte_at;
+use flash::cells::first;
+use flash::cells::lay;
 ghost use Prim.Native.Nat.{_≤_};
 ghost use lib.ListN.{length};
 

@@ -5,7 +5,7 @@ use crate::show;
 use device::refusal::Refusal;
 use device::start::Started;
 use device::start::start;
-use platform::cells::first;
+use flash::cells::first;
 use tinyboot_protocol::RunMode;
 ghost use mathlib.Core.Path.{_≡_};
 ghost use Rattle.device.specs.Refusals.{refusalNumber};

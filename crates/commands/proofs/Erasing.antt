@@ -10,13 +10,13 @@ use lib.Dec.{leb, ltb, eqb}
 use borrow.Author.Tests.{lt-ltb, le-ltb, ltb-true, leb-true, leb-false, eq-eqb, ne-eqb, eqb-true, eqb-false, not-true, not-false}
 use Rattle.laws.specs.Pick.{pick}
 use Rattle.laws.proofs.Bools.{and-both}
-use Rattle.platform.specs.declared.storage.Stored.{Stored}
-use Rattle.platform.specs.Flash.{leaves, storedNumber, unaligned}
-use Rattle.platform.specs.Flash as flash
+use Rattle.flash.specs.declared.storage.Stored.{Stored}
+use Rattle.flash.specs.Flash.{leaves, storedNumber, unaligned}
+use Rattle.flash.specs.Flash as flash
 use Rattle.platform.specs.State.{stateRead}
 use Rattle.platform.specs.Record.{stateOf, refreshed, advanced, advanceAnswer}
-use Rattle.platform.proofs.Flash.{erased-length}
-use Rattle.platform.proofs.Answers.{erase-all}
+use Rattle.flash.proofs.Flash.{erased-length}
+use Rattle.flash.proofs.Answers.{erase-all}
 use Rattle.platform.proofs.Record.{answer-above, advanced-refused, advanced-length, refreshed-length}
 use Rattle.commands.specs.Fields.{addrOf, Ok, WriteError, AddrOutOfBounds, updating, validating}
 use Rattle.commands.specs.Erase.{Erased, countOf, eraseFits, readied, stuck, erasedTo, carried, eraseOf}

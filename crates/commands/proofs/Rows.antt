@@ -6,8 +6,8 @@ use lib.ListN.{replicate}
 use Rattle.laws.specs.Fold.{fold}
 use Rattle.tinyboot_protocol.specs.Crc.{entered, bits, bitsOf, crcFrom}
 use Rattle.platform.specs.State.{stateRead, appPresent}
-use Rattle.platform.specs.Flash.{erased}
-use Rattle.platform.specs.Flash as flash
+use Rattle.flash.specs.Flash.{erased}
+use Rattle.flash.specs.Flash as flash
 use Rattle.platform.specs.Record.{stepped, stepAnswer}
 use Rattle.commands.specs.Erase.{eraseFits, readied, stuck, erasedTo, eraseOf}
 use Rattle.commands.specs.Verify.{keyFits, verifiedTo, verifyOf}

@@ -6,8 +6,8 @@ use lib.ListN.{getD}
 use lib.Dec.{leb, ltb, eqb}
 use Rattle.laws.specs.Pick.{pick}
 use Rattle.laws.specs.Low.{lowFirst}
-use Rattle.platform.specs.Flash.{Left}
-use Rattle.platform.specs.Flash as flash
+use Rattle.flash.specs.Flash.{Left}
+use Rattle.flash.specs.Flash as flash
 use Rattle.platform.specs.Record.{stateOf, refreshed, advanced, advanceAnswer}
 use Rattle.commands.specs.Fields.{addrOf, Ok, WriteError, AddrOutOfBounds, updating, validating}
 

@@ -2,8 +2,8 @@
 
 use crate::fields;
 use platform::boot_meta_store;
-use platform::storage;
-use platform::storage::Stored;
+use flash::storage;
+use flash::storage::Stored;
 use platform::traits::BootState;
 use tinyboot_protocol::Status;
 use tinyboot_protocol::le;
@@ -12,7 +12,7 @@ ghost use mathlib.Core.Bool.{not};
 ghost use lib.Dec.{eqb};
 ghost use Rattle.laws.specs.Pick.{pick};
 ghost use Rattle.tinyboot_protocol.specs.Names.{statusNumber};
-ghost use Rattle.platform.specs.Flash.{storedNumber};
+ghost use Rattle.flash.specs.Flash.{storedNumber};
 ghost use Rattle.commands.specs.Fields.{Ok, WriteError};
 ghost use Rattle.commands.specs.Erase.{countOf, eraseFits, stuck, readied, erasedTo, eraseOf};
 

@@ -2,8 +2,8 @@
 
 use crate::fields;
 use platform::boot_meta_store;
-use platform::cells::byte_at;
-use platform::cells::first;
+use flash::cells::byte_at;
+use flash::cells::first;
 use platform::traits::BootState;
 use tinyboot_protocol::COMPAT_UNSET;
 use tinyboot_protocol::Status;

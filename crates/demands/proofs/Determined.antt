@@ -20,14 +20,14 @@ use Rattle.tinyboot_protocol.specs.Baud.{baudIndex, baudFoundOf}
 use Rattle.frames.specs.Stored.{Said, saidOf, Read, seen}
 use Rattle.frames.specs.Sent.{Sent, sent}
 use Rattle.tinyboot_protocol.proofs.Apart.{cmd-found-apart, status-apart, status-found-apart, mode-apart, rate-apart, rate-found-apart}
-use Rattle.platform.specs.declared.storage.Stored.{Stored}
+use Rattle.flash.specs.declared.storage.Stored.{Stored}
 use Rattle.platform.specs.declared.boot_meta_store.Step.{Step}
 use Rattle.platform.specs.declared.traits.BootState.{BootState}
 use Rattle.platform.specs.State.{stateByte}
-use Rattle.platform.specs.Flash.{leaves}
-use Rattle.platform.specs.Flash as flash
+use Rattle.flash.specs.Flash.{leaves}
+use Rattle.flash.specs.Flash as flash
 use Rattle.platform.specs.Record.{Stepped, stepsTo}
-use Rattle.platform.proofs.Answers.{stored-injective}
+use Rattle.flash.proofs.Answers.{stored-injective}
 use Rattle.platform.proofs.Record.{step-injective}
 use Rattle.tinyboot_core.specs.declared.addressing.Selected.{Selected}
 use Rattle.tinyboot_core.specs.Select.{Choice, choiceOf}

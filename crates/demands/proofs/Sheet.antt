@@ -8,8 +8,8 @@ use Rattle.frames.specs.Sent.{sealed, sendOf}
 use Rattle.tinyboot_core.specs.Select.{agree, matches, slotOf, copied, selectOf}
 use Rattle.tinyboot_core.specs.Start.{validOf, triedOf, clearedOf, startOf}
 use Rattle.platform.specs.State.{stateRead, appPresent}
-use Rattle.platform.specs.Flash.{written, erased}
-use Rattle.platform.specs.Flash as flash
+use Rattle.flash.specs.Flash.{written, erased}
+use Rattle.flash.specs.Flash as flash
 use Rattle.platform.specs.Record.{stepped, stepAnswer}
 use Rattle.commands.specs.Erase.{eraseFits, readied, stuck, eraseOf}
 use Rattle.writes.specs.Write.{took, poured, flushed, writeFits, writtenOf, cmdWriteOf}

@@ -1,5 +1,3 @@
 pub mod States
-pub mod Flash
-pub mod Answers
 pub mod Record
 pub mod Bytes

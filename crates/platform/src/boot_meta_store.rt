@@ -1,8 +1,8 @@
 // Translated from tinyboot, ch32/src/platform/boot_meta_store.rs (MIT OR Apache-2.0); changed: the record is a lent array of 12 bytes.
 
-use crate::cells::byte_at;
-use crate::cells::lay;
-use crate::cells::put;
+use flash::cells::byte_at;
+use flash::cells::lay;
+use flash::cells::put;
 use crate::traits::BootState;
 use tinyboot_protocol::le;
 ghost use mathlib.Core.Path.{_≡_};

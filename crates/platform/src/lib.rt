@@ -1,5 +1,3 @@
-// The platform: flash and record, lent as arrays, where tinyboot has a chip behind traits.
+// The platform: the record, lent as an array, and what is read off it and the flash, where tinyboot has a chip behind traits.
 pub mod boot_meta_store;
-pub mod cells;
-pub mod storage;
 pub mod traits;

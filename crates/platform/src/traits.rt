@@ -1,6 +1,6 @@
 // Translated from tinyboot, lib/core/src/traits.rs (MIT OR Apache-2.0); changed.
 
-use crate::cells::byte_at;
+use flash::cells::byte_at;
 use tinyboot_protocol::le;
 ghost use mathlib.Core.Path.{_≡_};
 ghost use Rattle.platform.specs.State.{stateByte, stateRead, appPresent};

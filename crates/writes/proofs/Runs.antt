@@ -12,9 +12,9 @@ use Rattle.laws.specs.Pick.{pick}
 use Rattle.laws.proofs.Bools.{and-both}
 use Rattle.frames.specs.Reading.{lenOf}
 use Rattle.tinyboot_protocol.specs.Flags.{bitSet}
-use Rattle.platform.specs.Flash.{leaves, written, writeOf}
-use Rattle.platform.specs.declared.storage.Stored.{Stored}
-use Rattle.platform.proofs.Answers.{write-all}
+use Rattle.flash.specs.Flash.{leaves, written, writeOf}
+use Rattle.flash.specs.declared.storage.Stored.{Stored}
+use Rattle.flash.proofs.Answers.{write-all}
 use Rattle.commands.specs.Fields.{addrOf, flagsOf, dataOf, Ok, AddrOutOfBounds, Unsupported, updating}
 use Rattle.writes.specs.Write.{Run, none, pageOut, put, took, poured, over, flushed, writeFits, done, wroteTo, begin, writtenOf, cmdWriteOf}
 use Rattle.writes.proofs.Writing.{write-length, took-flash, took-page}

@@ -5,7 +5,7 @@ use mathlib.Core.Path.{_≡_, refl}
 use mathlib.Core.List.{List, [], _∷_, _++_}
 use lib.ListN.{replicate}
 use Rattle.platform.specs.State.{stateRead}
-use Rattle.platform.specs.Flash.{written, writeOf}
+use Rattle.flash.specs.Flash.{written, writeOf}
 use Rattle.writes.specs.Write.{none, took, poured, flushed, writeFits, Wrote, wroteTo, writtenOf, cmdWriteOf}
 
 record Case : Type 0 where

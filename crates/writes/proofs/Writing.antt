@@ -12,9 +12,9 @@ use borrow.Author.Tests.{eq-eqb, ne-eqb, le-leb, lt-leb, eqb-false}
 use Rattle.laws.specs.Pick.{pick}
 use Rattle.tinyboot_protocol.specs.Flags.{bitSet}
 use Rattle.frames.specs.Reading.{lenOf}
-use Rattle.platform.specs.Flash.{unaligned, leaves, written, writeOf}
-use Rattle.platform.specs.declared.storage.Stored.{Stored}
-use Rattle.platform.proofs.Flash.{written-length}
+use Rattle.flash.specs.Flash.{unaligned, leaves, written, writeOf}
+use Rattle.flash.specs.declared.storage.Stored.{Stored}
+use Rattle.flash.proofs.Flash.{written-length}
 use Rattle.commands.specs.Fields.{addrOf, flagsOf, dataOf, Ok, WriteError, AddrOutOfBounds, Unsupported, updating}
 use Rattle.writes.specs.Write.{Run, running, none, fails, pageOut, put, took, poured, over, flushed, writeFits, wroteTo, begin, writtenOf, cmdWriteOf}
 

@@ -7,7 +7,7 @@ use lib.Dec.{leb, eqb}
 use Rattle.laws.specs.Pick.{pick}
 use Rattle.frames.specs.Reading.{lenOf}
 use Rattle.tinyboot_protocol.specs.Flags.{bitSet}
-use Rattle.platform.specs.Flash.{Left, writeOf}
+use Rattle.flash.specs.Flash.{Left, writeOf}
 use Rattle.commands.specs.Fields.{addrOf, flagsOf, dataOf, Ok, WriteError, AddrOutOfBounds, Unsupported, updating}
 
 -- a run of writes under way: the flash, the page, how many of its bytes are filled, the address of the next byte, and whether a page write was refused

@@ -1,8 +1,8 @@
 // Translated from tinyboot, lib/core/src/protocol.rs (MIT OR Apache-2.0); changed.
 
 use commands::fields;
-use platform::storage;
-use platform::storage::Stored;
+use flash::storage;
+use flash::storage::Stored;
 use tinyboot_protocol::Status;
 use tinyboot_protocol::WriteFlags;
 use tinyboot_protocol::le;
@@ -12,7 +12,7 @@ ghost use Prim.Native.Nat.{_^_, _≤_, _<_};
 ghost use lib.ListN.{length};
 ghost use Rattle.laws.specs.Pick.{pick};
 ghost use Rattle.tinyboot_protocol.specs.Names.{statusNumber};
-ghost use Rattle.platform.specs.Flash.{storedNumber};
+ghost use Rattle.flash.specs.Flash.{storedNumber};
 ghost use Rattle.commands.specs.Fields.{dataOf, Ok, WriteError};
 ghost use Rattle.writes.specs.Write.{none, running, fails, pageOut, took, poured, flushed, writeFits, begin, writtenOf, wroteTo, cmdWriteOf};
 

@@ -2,8 +2,8 @@ use mathlib.Core.Path.{sym}
 use lib.Seq.{length-take-le, take-all}
 use native.Mathlib.Omega.{arith}
 use borrow.Author.Needs.{needs}
-use Rattle.platform.proofs.cells.first.Statement.{statement}
-use Rattle.platform.proofs.cells.first.Tie as tie
+use Rattle.flash.proofs.cells.first.Statement.{statement}
+use Rattle.flash.proofs.cells.first.Tie as tie
 
 slice-aggregate-result : tie.Need-slice-aggregate-result
 slice-aggregate-result c = sym (length-take-le _ _ (c .before .if1 .taken))

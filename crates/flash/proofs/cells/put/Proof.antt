@@ -2,8 +2,8 @@
 use mathlib.Core.Path.{sym}
 use lib.Seq.{set-out}
 use borrow.Author.Needs.{needs}
-use Rattle.platform.proofs.cells.put.Statement.{statement}
-use Rattle.platform.proofs.cells.put.Tie as tie
+use Rattle.flash.proofs.cells.put.Statement.{statement}
+use Rattle.flash.proofs.cells.put.Tie as tie
 
 slice-write-s : tie.Need-slice-write-s
 slice-write-s c = search needs

@@ -3,12 +3,12 @@ use mathlib.Core.Path.{_≡_, sym, _∙_}
 use Prim.Native.Nat.{_+_, _-_, _≤_}
 use native.Mathlib.Nat.{add-zero}
 use lib.ListN.{length, drop, length-set}
-use Rattle.platform.specs.Flash.{written}
-use Rattle.platform.proofs.Flash.{write-more, write-done}
+use Rattle.flash.specs.Flash.{written}
+use Rattle.flash.proofs.Flash.{write-more, write-done}
 use native.Mathlib.Omega.{arith}
 use borrow.Author.Needs.{needs}
-use Rattle.platform.proofs.storage.program.Statement.{statement}
-use Rattle.platform.proofs.storage.program.Tie as tie
+use Rattle.flash.proofs.storage.program.Statement.{statement}
+use Rattle.flash.proofs.storage.program.Tie as tie
 
 abbrev Inv-loop : tie.InvT-loop
 Inv-loop flash₀ at bytes j₀ flash j =

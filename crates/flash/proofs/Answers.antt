@@ -6,8 +6,8 @@ use Prim.Native.Nat.{ℕ, _+_, _-_, _%_, _≤_, _<_}
 use native.Mathlib.Omega.{arith}
 use lib.ListN.{length}
 use borrow.Author.Tests.{lt-ltb, le-ltb, eq-eqb, ne-eqb}
-use Rattle.platform.specs.declared.storage.Stored.{Stored}
-use Rattle.platform.specs.Flash.{written, erased, storedNumber, unaligned, leaves, writeOf, eraseOf}
+use Rattle.flash.specs.declared.storage.Stored.{Stored}
+use Rattle.flash.specs.Flash.{written, erased, storedNumber, unaligned, leaves, writeOf, eraseOf}
 
 -- an answer is known by its number
 pub stored-injective : (s t : Stored) → storedNumber s ≡ storedNumber t → s ≡ t

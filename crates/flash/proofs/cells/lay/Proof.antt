@@ -7,8 +7,8 @@ use lib.ListN.{length, drop, set, getD, length-set, drop-of-length-le}
 use lib.Seq.{sets, drop-cons}
 use native.Mathlib.Omega.{arith}
 use borrow.Author.Needs.{needs}
-use Rattle.platform.proofs.cells.lay.Statement.{statement}
-use Rattle.platform.proofs.cells.lay.Tie as tie
+use Rattle.flash.proofs.cells.lay.Statement.{statement}
+use Rattle.flash.proofs.cells.lay.Tie as tie
 
 abbrev Inv-loop : tie.InvT-loop
 Inv-loop s₀ new i₀ s i = (i ≤ length new) × (length s ≡ length s₀) × (sets s i (drop i new) ≡ sets s₀ 0 new)

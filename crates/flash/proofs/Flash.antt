@@ -8,7 +8,7 @@ use native.Mathlib.Omega.{arith}
 use lib.ListN.{length, set, drop, getD, drop-of-length-le}
 use lib.Seq.{drop-cons}
 use lib.Bits.{bitAnd, and-le-l}
-use Rattle.platform.specs.Flash.{written, erased}
+use Rattle.flash.specs.Flash.{written, erased}
 
 -- a write: its length, and a cell before it, in it and past it
 pub written-length : (f : List ℕ) (at : ℕ) (d : List ℕ) → length (written f at d) ≡ length f

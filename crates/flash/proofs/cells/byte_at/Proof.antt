@@ -3,8 +3,8 @@ use mathlib.Core.Path.{sym}
 use lib.ListN.{List·getD-eq-default}
 use Rattle.laws.proofs.Lists.{getD-any}
 use borrow.Author.Needs.{needs}
-use Rattle.platform.proofs.cells.byte_at.Statement.{statement}
-use Rattle.platform.proofs.cells.byte_at.Tie as tie
+use Rattle.flash.proofs.cells.byte_at.Statement.{statement}
+use Rattle.flash.proofs.cells.byte_at.Tie as tie
 
 shared-slice-read-result : tie.Need-shared-slice-read-result
 shared-slice-read-result c = search needs

@@ -6,7 +6,7 @@ use lib.ListN.{length}
 use lib.Bits.{bitAnd}
 use lib.Dec.{ltb, eqb}
 use Rattle.laws.specs.Pick.{pick}
-use Rattle.platform.specs.declared.storage.Stored.{Stored}
+use Rattle.flash.specs.declared.storage.Stored.{Stored}
 
 -- a write can only clear bits: the bytes d are ANDed in from the cell `at` on, every other cell is kept (01, Record, flash, start)
 unfoldable pub written : List ℕ → ℕ → List ℕ → List ℕ

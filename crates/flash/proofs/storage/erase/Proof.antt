@@ -1,11 +1,11 @@
 -- Each answer is the case of the definition that the tests before it lead to.
 use mathlib.Core.Path.{ap, sym, _∙_}
-use Rattle.platform.specs.declared.storage.Stored.{Stored}
-use Rattle.platform.specs.Flash.{leaves}
-use Rattle.platform.proofs.Answers.{erase-unaligned, erase-unaligned-end, erase-out, erase-all}
+use Rattle.flash.specs.declared.storage.Stored.{Stored}
+use Rattle.flash.specs.Flash.{leaves}
+use Rattle.flash.proofs.Answers.{erase-unaligned, erase-unaligned-end, erase-out, erase-all}
 use borrow.Author.Needs.{needs}
-use Rattle.platform.proofs.storage.erase.Statement.{statement}
-use Rattle.platform.proofs.storage.erase.Tie as tie
+use Rattle.flash.proofs.storage.erase.Statement.{statement}
+use Rattle.flash.proofs.storage.erase.Tie as tie
 
 returns : tie.Need-returns
 returns c = sym (erase-unaligned 64 _ _ _ (c .if1 .taken))

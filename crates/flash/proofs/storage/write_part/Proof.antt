@@ -4,11 +4,11 @@ use mathlib.Core.List.{List}
 use Prim.Native.Nat.{ℕ}
 use lib.ListN.{length-take}
 use lib.Seq.{take-all}
-use Rattle.platform.specs.Flash.{writeOf}
+use Rattle.flash.specs.Flash.{writeOf}
 use native.Mathlib.Omega.{arith}
 use borrow.Author.Needs.{needs}
-use Rattle.platform.proofs.storage.write_part.Statement.{statement}
-use Rattle.platform.proofs.storage.write_part.Tie as tie
+use Rattle.flash.proofs.storage.write_part.Statement.{statement}
+use Rattle.flash.proofs.storage.write_part.Tie as tie
 
 slice-aggregate-write : tie.Need-slice-aggregate-write
 slice-aggregate-write c =

@@ -2,12 +2,12 @@
 use mathlib.Core.Path.{_≡_, refl, sym, _∙_}
 use Prim.Native.Nat.{_-_}
 use lib.ListN.{length, length-set}
-use Rattle.platform.specs.Flash.{erased}
-use Rattle.platform.proofs.Flash.{erase-more, erase-done}
+use Rattle.flash.specs.Flash.{erased}
+use Rattle.flash.proofs.Flash.{erase-more, erase-done}
 use native.Mathlib.Omega.{arith}
 use borrow.Author.Needs.{needs}
-use Rattle.platform.proofs.storage.blank.Statement.{statement}
-use Rattle.platform.proofs.storage.blank.Tie as tie
+use Rattle.flash.proofs.storage.blank.Statement.{statement}
+use Rattle.flash.proofs.storage.blank.Tie as tie
 
 abbrev Inv-loop : tie.InvT-loop
 Inv-loop flash₀ from to k₀ flash k = (length flash ≡ length flash₀) × (erased flash k (to - k) ≡ erased flash₀ from (to - from))

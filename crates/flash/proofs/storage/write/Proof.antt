@@ -1,12 +1,12 @@
 -- Each answer is the case of the definition that the tests before it lead to.
 use mathlib.Core.Path.{ap, sym, _∙_}
-use Rattle.platform.specs.declared.storage.Stored.{Stored}
-use Rattle.platform.specs.Flash.{leaves}
-use Rattle.platform.proofs.Answers.{write-unaligned, write-long, write-out, write-all}
+use Rattle.flash.specs.declared.storage.Stored.{Stored}
+use Rattle.flash.specs.Flash.{leaves}
+use Rattle.flash.proofs.Answers.{write-unaligned, write-long, write-out, write-all}
 use native.Mathlib.Omega.{arith}
 use borrow.Author.Needs.{needs}
-use Rattle.platform.proofs.storage.write.Statement.{statement}
-use Rattle.platform.proofs.storage.write.Tie as tie
+use Rattle.flash.proofs.storage.write.Statement.{statement}
+use Rattle.flash.proofs.storage.write.Tie as tie
 
 returns : tie.Need-returns
 returns c = sym (write-unaligned 64 _ _ _ (c .if1 .taken))

@@ -4,7 +4,7 @@
 ghost use mathlib.Core.Path.{_≡_};
 ghost use Prim.Native.Nat.{_+_, _-_, _≤_};
 ghost use lib.ListN.{length, take};
-ghost use Rattle.platform.specs.Flash.{written, erased, leaves, writeOf, eraseOf};
+ghost use Rattle.flash.specs.Flash.{written, erased, leaves, writeOf, eraseOf};
 
 pub const PAGE_SIZE: usize = 64;
 
