@@ -1,0 +1,479 @@
+"""What a script reaches, counted on the device of model.py: answers, replies, both sides of every limit, states of the record, refusals, lines. A limit's side is
+counted where that limit alone decides. `wanted` has every point that the stored run of `bench` must reach (make-replay)."""
+from collections import Counter
+
+import model
+from model import ADDRESS, BAUD, COMMAND, DATA, ERASE, FLAGS, INFO, KEY_UNSET, LENGTH, RECEIVED_CRC, RESET, SELECT, STATE, STATUS, TRIALS, VERIFY, WRITE, low_first
+
+COMMANDS = ("Info", "Erase", "Write", "Verify", "Reset", "Select")
+STATUSES = ("Request", "Ok", "WriteError", "CrcMismatch", "AddrOutOfBounds", "Unsupported", "PayloadOverflow", "Incompatible")
+MODES = ("hand-off", "Service")
+
+
+def state_name(byte):
+    return {0xFF: "FF", 0x7F: "7F", 0x3F: "3F"}.get(byte, "another above 3F" if byte > 0x3F else "another below 3F")
+
+
+STATE_NAMES = ("FF", "7F", "3F", "another above 3F", "another below 3F")
+
+
+class Counted(model.Device):
+    """The device, with each call's points put down in `seen`."""
+
+    def __init__(self, setup, seen):
+        super().__init__(setup)
+        self.seen = seen
+        self.ended_in_aa = False
+        self.of_setup()
+
+    def note(self, group, *points):
+        for point in points:
+            self.seen[group, str(point)] += 1
+
+    # Refusals
+
+    def of_setup(self):
+        """Which numbers of the setup are wrong; a limit's side where the others are right."""
+        setup = self.setup
+        wrong = {"erase size": not (setup.erase_size % 64 == 0 and 64 <= setup.erase_size <= 32768),
+                 "capacity": not 0 < setup.capacity <= 65536 or setup.erase_size != 0 and setup.capacity % setup.erase_size != 0, "id length": setup.id_length > 16}
+        for name, value in (("erase size", setup.erase_size), ("capacity", setup.capacity), ("id length", setup.id_length)):
+            if not any(bad for other, bad in wrong.items() if other != name):
+                self.note("setup", f"{name} {value}")
+                if name == "capacity" and setup.erase_size and setup.capacity % setup.erase_size and setup.capacity % 64 == 0:
+                    self.note("setup", "capacity a multiple of 64 alone")
+
+    def reasons(self, of_start):
+        setup, state = self.setup, self.state
+        found = [10] if not setup.good else []
+        if not of_start and not state.well_formed(setup.capacity):
+            found.append(11)
+        found += [12] if self.flash_lent != setup.capacity else []
+        found += [13] if self.record_lent != 12 else []
+        if not of_start:
+            found += [14] if self.room_lent < 64 else []
+            found += [15] if not state.open else []
+        return found
+
+    def refusal(self, of_start):
+        found, setup = self.reasons(of_start), self.setup
+        name = "start refused" if of_start else "refused"
+        if len(found) == 1:
+            self.note(name, f"{found[0]} alone")
+        for n, one in enumerate(found):
+            self.note(name, *(f"{one} before {two}" for two in found[n + 1:]))
+        if set(found) <= {12}:
+            self.note("flash lent", f"capacity {self.flash_lent - setup.capacity:+d}")
+        if set(found) <= {13}:
+            self.note("record lent", self.record_lent)
+        if set(found) <= {14} and not of_start:
+            self.note("room lent", self.room_lent)
+        if of_start and not found:
+            if self.room_lent < 64:
+                self.note("start refused", "not by a room below 64")
+            if self.was_bad:
+                self.note("start refused", "not by a state that is none")
+        if not of_start and set(found) <= {11}:
+            self.of_state()
+        return super().refusal(of_start)
+
+    def of_state(self):
+        """The run and the frame begun, where only one of them can be wrong."""
+        state, frame, capacity = self.state, self.state.frame, self.setup.capacity
+        fill, next, begun = state.fill, state.next, state.begun
+        run = fill == 0 if next is None else fill < 64 and next <= capacity and next % 64 == fill
+        length = low_first(frame[LENGTH:DATA])
+        tests = [("AA", begun < 1 or frame[0] == 0xAA), ("55", begun < 2 or frame[1] == 0x55), ("command", begun < 10 or frame[COMMAND] <= 5),
+                 ("status", begun < 10 or frame[STATUS] <= 7), ("length", begun < 10 or length <= 52), ("place", begun < 10 or begun < 12 + length)]
+        wrong = [name for name, good in tests if not good]
+        if not wrong:
+            if next is None:
+                self.note("run", "none, fill 0" if fill == 0 else "none, fill not 0")
+            else:
+                if next % 64 == fill % 64 and next <= capacity:
+                    self.note("run", f"fill {fill}")
+                if fill < 64 and next % 64 == fill:
+                    self.note("run", f"next at capacity {next - capacity:+d}" if abs(next - capacity) <= 64 else "next elsewhere")
+                if fill < 64 and next <= capacity:
+                    self.note("run", f"next mod 64 {'is' if next % 64 == fill else 'is not'} fill")
+        if run:
+            if len(wrong) == 1:
+                self.note("frame begun", f"{wrong[0]} alone wrong")
+                if wrong[0] == "place":
+                    self.note("frame begun", f"at its end {begun - length - 12:+d}")
+            elif not wrong:
+                self.note("frame begun", begun)
+                if begun >= 10:
+                    self.note("frame begun", f"at its end {begun - length - 12:+d}")
+            if begun >= 10 and set(wrong) <= {"command"}:
+                self.note("frame begun", f"command {frame[COMMAND]}")
+            if begun >= 10 and set(wrong) <= {"status"}:
+                self.note("frame begun", f"status {frame[STATUS]}")
+            if begun >= 10 and set(wrong) <= {"length"}:
+                self.note("frame begun", f"length {length}")
+            if begun == 1 and frame[1] != 0x55 or 2 <= begun < 10 and frame[COMMAND] > 5:
+                self.note("frame begun", "bytes not yet read do not count")
+
+    # Reading
+
+    def feed(self, piece):
+        state = self.state
+        open_before = not self.reasons(False)
+        if open_before:
+            self.hunted(piece)
+        result = super().feed(piece)
+        number, taken = result[:2]
+        self.note("answer", number)
+        if number <= 3:
+            self.note("piece", "empty" if not piece else "one byte" if len(piece) == 1 else "longer")
+            if number:
+                self.note("piece", "ended with the frame" if taken == len(piece) else "went on behind the frame")
+            else:
+                self.note("begun at a call's end", state.begun)
+            if piece:
+                self.ended_in_aa = number != 0 and piece[taken - 1] == 0xAA
+        return result
+
+    def hunted(self, piece):
+        begun, twice = self.state.begun, False
+        if begun == 0 and self.ended_in_aa and piece[:1] == b"\x55":
+            self.note("reading", "55 behind the AA that ended a frame")
+        for byte in piece:
+            if begun >= 2:
+                break
+            if begun == 1 and byte == 0x55:
+                begun = 2
+                if twice:
+                    self.note("reading", "AA AA 55")
+            elif byte == 0xAA:
+                begun, twice = 1, begun == 1
+            else:
+                if begun == 1:
+                    self.note("reading", "AA and no 55")
+                begun = 0
+
+    def header_read(self):
+        frame = self.state.frame
+        command, status, length = frame[COMMAND], frame[STATUS], low_first(frame[LENGTH:DATA])
+        whom = "addressed" if self.setup.addressed else "unaddressed"
+        if status <= 7 and (status == 0 or command <= 5):
+            self.note("header", f"{whom}: command {command}") if command in (0, 1, 2, 3, 4, 5, 6, 255) else None
+        if command <= 5:
+            self.note("header", f"{whom}: status {status}") if status in (*range(9), 255) else None
+            if status <= 7 and length in (0, 52, 53, 256, 0xFFFF):
+                self.note("header", f"{whom}: length {length}, {'a request' if status == 0 else 'overheard'}")
+        if command > 5 and length > 52:
+            self.note("header", "no command and too long")
+        if command > 5 and 0 < status <= 7:
+            self.note("header", "no command, and a reply")
+        if command <= 5 and status > 7 and length > 52:
+            self.note("header", "no status and too long")
+        return super().header_read()
+
+    def frame_read(self, data_end):
+        frame = self.state.frame
+        received, right = low_first(frame[RECEIVED_CRC:]), model.crc(frame[:data_end])
+        what = "right" if received == right else "low byte wrong" if received >> 8 == right >> 8 else "high byte wrong" if received & 0xFF == right & 0xFF else "both wrong"
+        self.note("CRC", f"{'a request' if frame[STATUS] == 0 else 'overheard'}: {what}")
+        return super().frame_read(data_end)
+
+    def answer(self, ended):
+        self.command = self.state.frame[COMMAND]
+        if self.setup.addressed and ended == 1 and self.command != SELECT:
+            self.note("select", f"{COMMANDS[self.command]} {'selected' if self.state.selected else 'not selected'}")
+        if self.setup.addressed and ended > 1:
+            self.note("select", f"an error is silence {'selected' if self.state.selected else 'not selected'}")
+        return super().answer(ended)
+
+    def reply(self, status=model.OK, payload=b"", wait=0, number=model.REPLY, mode=model.SERVICE):
+        name = COMMANDS[self.command] if self.command <= 5 else "no command"
+        self.note("reply", f"{name} {STATUSES[status]}")
+        self.note("status", status)
+        if wait:
+            self.note("wait", wait)
+        elif self.command == SELECT and status == model.OK:
+            self.note("wait", 0)
+        if number == model.RESTART:
+            self.note("restart", MODES[mode])
+        return super().reply(status, payload, wait, number, mode)
+
+    # Commands
+
+    def erase(self):
+        setup, frame, record = self.setup, self.state.frame, self.record
+        size, capacity = setup.erase_size, setup.capacity
+        address, count, length = self.address(), low_first(frame[DATA:DATA + 2]), low_first(frame[LENGTH:DATA])
+        wrong = [name for name, bad in (("address", address % size), ("count", count % size), ("count 0", count == 0), ("end", address + count > capacity)) if bad]
+        state = state_name(record[STATE])
+        if not wrong:
+            self.note("Erase", f"range right, state {state}", "end at capacity" if address + count == capacity else "end below capacity")
+            self.note("Erase", *(["whole flash"] if count == capacity else []), *(["a run is open"] if self.state.next is not None else []))
+            self.note("Erase", f"range right, length {length if length <= 2 else 'above 2'}")
+            self.note("Erase state byte", f"{record[STATE]:02X}")
+            if self.flash[address:address + count] != b"\xFF" * count:
+                self.note("Erase", "cells that were not FF")
+        elif len(wrong) == 1:
+            self.note("Erase", f"refused by {wrong[0]} alone, state {state}")
+            if wrong[0] == "end":
+                self.note("Erase", "end one block above" if address + count == capacity + size else "end further above")
+            if wrong[0] == "count":
+                self.note("Erase", "count a multiple of 64 alone" if count % 64 == 0 else "count no multiple of 64")
+            if wrong[0] == "address":
+                self.note("Erase", "address a multiple of 64 alone" if address % 64 == 0 else "address no multiple of 64")
+        return super().erase()
+
+    def write(self):
+        state, frame, capacity = self.state, self.state.frame, self.setup.capacity
+        address, length, flush = self.address(), low_first(frame[LENGTH:DATA]), frame[FLAGS] & 0x80
+        wrong = []
+        if self.boot_state() != model.UPDATING:
+            wrong.append("state")
+        right_place = address % 64 == 0 if state.next is None else address == state.next
+        wrong += ["place"] if not right_place else []
+        wrong += ["end"] if address + length > capacity else []
+        run = "no run" if state.next is None else "a run"
+        if set(wrong) <= {"state"}:
+            self.note("Write", f"{'refused by' if wrong else 'taken,'} state {state_name(self.record[STATE])}")
+        if not wrong:
+            end = state.fill + length
+            self.note("Write", f"{run}, right place", f"length {length}" if length in (0, 1, 51, 52) else "another length")
+            self.note("Write", f"{run}, end at capacity" if address + length == capacity else "end below capacity")
+            self.note("Write", f"flags {frame[FLAGS]:02X}" if frame[FLAGS] in (0, 0x7F, 0x80, 0xFF) else "other flags")
+            self.note("Write", f"page to {end}" if end in (63, 64, 65) else "page elsewhere")
+            if flush:
+                self.note("Write", "flush of nothing" if end % 64 == 0 else "flush of a rest")
+            self.note("Write fill before", state.fill)
+            self.note("Write fill after", 0 if flush else end % 64)
+            begin = address - state.fill
+            if any(byte != 0xFF for byte in self.flash[begin:begin + state.fill + length]):
+                self.note("Write", "over cells that are not FF")
+        elif wrong == ["place"]:
+            off = address % 64 if state.next is None else address - state.next
+            self.note("Write", f"{run}, refused by place alone")
+            if state.next is None:
+                self.note("Write", f"no run, off a page's start by {off}" if off in (1, 32, 63) else "no run, further off")
+            else:
+                self.note("Write", f"a run, off its end by {off:+d}" if abs(off) == 1 else "a run, at a page's start" if address % 64 == 0 else "a run, further off")
+        elif wrong == ["end"]:
+            self.note("Write", f"{run}, end {'one' if address + length == capacity + 1 else 'further'} above capacity")
+        elif wrong[0] == "state":
+            self.note("Write", "refused by state before place or end")
+        return super().write()
+
+    def verify(self):
+        setup, size, capacity, state = self.setup, self.address(), self.setup.capacity, state_name(self.record[STATE])
+        if self.boot_state() != model.UPDATING:
+            self.note("Verify", f"refused by state {state}", *(["refused by state before size"] if size == 0 or size > capacity else []))
+            return super().verify()
+        self.note("Verify", f"taken, state {state}")
+        key = "no key" if setup.key == KEY_UNSET else "a key"
+        for name, value in (("0", 0), ("1", 1), ("capacity", capacity), ("capacity + 1", capacity + 1)):
+            if size == value:
+                self.note("Verify", f"{key}, size {name}")
+        if size > 65536:
+            self.note("Verify", f"{key}, size above 16 bits")
+        if 0 < size <= capacity and setup.key != KEY_UNSET:
+            at = (size - 6) % 2**32
+            found = low_first(self.flash[at:at + 4]) if at < 65596 else None
+            if size <= 10:
+                self.note("Verify", f"a key, size {size}")
+            self.note("Verify", "a key, at no multiple of 4" if at % 4 else "a key, its place below 0" if at >= capacity else
+                      "a key, right" if found == setup.key else f"a key, wrong in byte {first_byte(found ^ setup.key)}")
+            if at == capacity - 8 and found == setup.key:
+                self.note("Verify", "a key, in the last place")
+            if at % 4 and found == setup.key:
+                self.note("Verify", "a key, right but at no multiple of 4")
+        if self.record[TRIALS] != 0xFF or self.record[BAUD] != 0xFF:
+            self.note("Verify", "over a record with trials or baud")
+        if self.state.next is not None:
+            self.note("Verify", "a run is open")
+        return super().verify()
+
+    def info(self):
+        size, capacity = self.size(), self.setup.capacity
+        names = {0: "0", 1: "1", 2: "2", 3: "3", capacity - 1: "capacity - 1", capacity: "capacity", capacity + 1: "capacity + 1", capacity + 2: "capacity + 2", 0xFFFFFFFF: "none"}
+        self.note("Info", f"size {names.get(size, 'elsewhere, below' if size < capacity else 'elsewhere, above')}")
+        baud = self.record[BAUD]
+        self.note("Info", f"baud {baud}" if baud in (0, 13, 14, 255) else "another baud")
+        if low_first(self.state.frame[LENGTH:DATA]):
+            self.note("Info", "with data")
+        return super().info()
+
+    def reset(self):
+        flags, baud = self.state.frame[FLAGS], self.state.frame[ADDRESS]
+        app = "an app" if self.app_present() else "no app"
+        mode = "to Service" if flags & 1 else "hand-off"
+        state = state_name(self.record[STATE])
+        self.note("Reset", f"{mode}, {app}, state {state}", f"flags {flags & 3}{', others set' if flags & 0xFC else ''}")
+        result = super().reset()
+        if flags & 2:
+            taken = result[0] == model.RESTART
+            self.note("Reset", f"baud {baud} stored" if taken and baud in (0, 13, 14, 255) else "another baud stored" if taken else "baud not stored, refused")
+        return result
+
+    def select(self):
+        setup, frame = self.setup, self.state.frame
+        length, bits = low_first(frame[LENGTH:DATA]), 8 * setup.id_length
+        seed, count, prefix = frame[DATA], frame[DATA + 1], bytes(frame[DATA + 2:DATA + 18])
+        wrong = [k for k in range(128) if k < bits and model.bit(prefix, k) != model.bit(setup.id, k)]
+        was = self.state.selected
+        result = super().select()
+        match = result is not None
+        self.note("select", f"id of {setup.id_length}, {'match' if match else 'no match'}", f"length {length if length <= 2 else 'above 2'}", f"seed mod 16 {seed % 16}")
+        if not wrong:
+            for name, value in (("0", 0), ("of all bits", bits), ("of all bits + 1", bits + 1), ("255", 255)):
+                if count == value:
+                    self.note("select", f"all bits right, count {name}")
+        if len(wrong) == 1 and count <= bits:
+            if wrong[0] == count - 1:
+                self.note("bit just below the count wrong", wrong[0])
+            if wrong[0] == count:
+                self.note("bit just past the count wrong", wrong[0])
+        if was != match:
+            self.note("select", "selected by it" if match else "deselected by it")
+        return result
+
+    # Start
+
+    def start(self, asked):
+        self.was_bad = not self.state.well_formed(self.setup.capacity)
+        held = self.state.begun, self.state.next, self.state.selected
+        result = super().start(asked)
+        self.note("start", str(result[0]) if result[0] is not None else MODES[result[1]])
+        if result[0] is None:
+            self.note("start", *(name for name, was in (("over a frame begun", held[0]), ("over a run", held[1] is not None), ("over a selection", held[2])) if was))
+        return result
+
+    def decision(self, asked):
+        record, size, capacity, checksum = self.record, self.size(), self.setup.capacity, self.checksum()
+        state, trials = state_name(record[STATE]), record[TRIALS]
+        if checksum == model.NO_CHECKSUM:
+            check = "no checksum, " + ("an app" if self.app_present() else "no app")
+        elif size > capacity:
+            check = "size above capacity"
+        else:
+            check = "checksum right" if model.crc(self.flash[:size]) == checksum else "checksum wrong"
+            self.note("start", *(name for name, there in (("size capacity", size == capacity), ("size 0", size == 0)) if there))
+        self.note("start record", f"{MODES[asked]} asked, state {state}")
+        if asked == 0 and record[STATE] != 0x7F:
+            self.note("start record", f"state {state}, {check}")
+        if record[STATE] == 0x3F:
+            self.note("start record", f"{MODES[asked]} asked, Validating, trials {trials:02X}" if trials in (0xFF, 0xB0, 0x10, 0x01, 0) else "Validating, other trials")
+        mode = super().decision(asked)
+        if asked == 0:
+            self.note("start record", f"{check}: {'hand-off' if mode == 0 else 'stays'}")
+        return mode
+
+
+def first_byte(difference):
+    return next(n for n in range(4) if difference >> 8 * n & 0xFF)
+
+
+class Bench(model.Bench):
+    """The script language with a counted device."""
+
+    def __init__(self, say):
+        super().__init__(say)
+        self.seen = Counter()
+        self.device = Counted(self.device.setup, self.seen)
+
+    def line_s(self, data):
+        super().line_s(data)
+        self.device = Counted(self.device.setup, self.seen)
+
+    def done(self, letter, digits):
+        good = super().done(letter, digits)
+        if good:
+            self.seen["line", letter] += 1
+        elif letter not in self.COUNTS:
+            self.seen["line", "no such letter"] += 1
+        elif not all(c in "0123456789abcdefABCDEF" for c in digits):
+            self.seen["line", "no digit"] += 1
+        elif len(digits) % 2:
+            self.seen["line", "half a byte"] += 1
+        else:
+            least, most = self.COUNTS[letter]
+            count = len(digits) // 2
+            self.seen["line", f"{letter}: {'too few' if count < least else 'too many' if count > most else 'past its limit'}"] += 1
+        return good
+
+
+def wanted():
+    """Every point that has to be reached, by group."""
+    points = {
+        "answer": [0, 1, 2, 3, *range(10, 16)],
+        "status": range(1, 8),
+        "reply": [f"{COMMANDS[command]} {STATUSES[status]}" for command, statuses in enumerate(((1, 3, 5, 6), (1, 2, 3, 4, 5, 6), (1, 3, 4, 5, 6), (1, 3, 4, 5, 6, 7), (1, 3, 5, 6), (1, 3, 5, 6)))
+                  for status in statuses] + ["no command Unsupported"],
+        "restart": MODES,
+        "wait": range(16),
+        "header": [f"{whom}: {what}" for whom in ("unaddressed", "addressed") for what in
+                   [f"command {n}" for n in (0, 1, 2, 3, 4, 5, 6, 255)] + [f"status {n}" for n in (*range(9), 255)]
+                   + [f"length {n}, {as_what}" for n in (0, 52, 53, 256, 0xFFFF) for as_what in ("a request", "overheard")]]
+        + ["no command and too long", "no command, and a reply", "no status and too long"],
+        "CRC": [f"{whom}: {what}" for whom in ("a request", "overheard") for what in ("right", "low byte wrong", "high byte wrong", "both wrong")],
+        "reading": ["AA AA 55", "AA and no 55", "55 behind the AA that ended a frame"],
+        "piece": ["empty", "one byte", "longer", "ended with the frame", "went on behind the frame"],
+        "begun at a call's end": range(64),
+        "Erase": [f"range right, state {state}" for state in STATE_NAMES] + ["end at capacity", "end below capacity", "whole flash", "a run is open", "cells that were not FF"]
+        + [f"range right, length {n}" for n in (0, 1, 2, "above 2")]
+        + [f"refused by {what} alone, state {state}" for what in ("address", "count", "count 0", "end") for state in STATE_NAMES]
+        + ["end one block above", "end further above", "count a multiple of 64 alone", "count no multiple of 64", "address a multiple of 64 alone", "address no multiple of 64"],
+        "Erase state byte": ["FF", "7F", "3F", "FE", "80", "40", "7E", "3E", "01", "00"],
+        "Write": [f"refused by state {state}" for state in STATE_NAMES if state != "7F"] + ["taken, state 7F", "refused by state before place or end", "end below capacity", "over cells that are not FF"]
+        + [f"{run}, {what}" for run in ("no run", "a run") for what in ("right place", "refused by place alone", "end at capacity", "end one above capacity")]
+        + [f"length {n}" for n in (0, 1, 51, 52)] + [f"flags {n}" for n in ("00", "7F", "80", "FF")] + [f"page to {n}" for n in (63, 64, 65)] + ["flush of nothing", "flush of a rest"]
+        + [f"no run, off a page's start by {n}" for n in (1, 32, 63)] + ["a run, off its end by +1", "a run, off its end by -1", "a run, at a page's start"],
+        "Write fill before": range(64),
+        "Write fill after": range(64),
+        "Verify": [f"refused by state {state}" for state in STATE_NAMES if state != "7F"] + ["taken, state 7F", "refused by state before size", "over a record with trials or baud", "a run is open"]
+        + [f"{key}, size {n}" for key in ("no key", "a key") for n in ("0", "1", "capacity", "capacity + 1", "above 16 bits")] + [f"a key, size {n}" for n in range(1, 11)]
+        + [f"a key, {what}" for what in ("at no multiple of 4", "its place below 0", "right", "in the last place", "right but at no multiple of 4", *(f"wrong in byte {n}" for n in range(4)))],
+        "Info": [f"size {n}" for n in ("0", "1", "2", "3", "capacity - 1", "capacity", "capacity + 1", "capacity + 2", "none", "elsewhere, below", "elsewhere, above")]
+        + [f"baud {n}" for n in (0, 13, 14, 255)] + ["with data"],
+        "Reset": [f"{mode}, {app}, state {state}" for mode in ("to Service", "hand-off") for app in ("an app", "no app") for state in ("FF", "7F", "3F", "another below 3F")]
+        + [f"flags {n}{others}" for n in range(4) for others in ("", ", others set")] + [f"baud {n} stored" for n in (0, 13, 14, 255)] + ["baud not stored, refused"],
+        "select": [f"id of {n}, {what}" for n in range(1, 17) for what in ("match", "no match")] + [f"length {n}" for n in (0, 1, 2, "above 2")] + [f"seed mod 16 {n}" for n in range(16)]
+        + [f"all bits right, count {n}" for n in ("0", "of all bits", "of all bits + 1", "255")] + ["selected by it", "deselected by it"]
+        + [f"{what} {how}" for what in (*COMMANDS[:5], "an error is silence") for how in ("selected", "not selected")],
+        "bit just below the count wrong": range(128),
+        "bit just past the count wrong": range(128),
+        "start": ["10", "12", "13", *MODES, "over a frame begun", "over a run", "over a selection", "size capacity", "size 0"],
+        "start record": [f"{mode} asked, state {state}" for mode in MODES for state in STATE_NAMES]
+        + [f"state {state}, {check}" for state in STATE_NAMES if state != "7F" for check in CHECKS] + [f"{mode} asked, Validating, trials {n}" for mode in MODES for n in ("FF", "B0", "01", "00")]
+        + ["hand-off asked, Validating, trials 10"]
+        + ["no checksum, an app: hand-off", "no checksum, an app: stays", "no checksum, no app: stays", "checksum right: hand-off", "checksum right: stays", "checksum wrong: stays",
+           "size above capacity: stays"],
+        "refused": [f"{one} alone" for one in range(10, 16)] + [f"{one} before {two}" for one in range(10, 16) for two in range(one + 1, 16)],
+        "start refused": ["10 alone", "12 alone", "13 alone", "10 before 12", "10 before 13", "12 before 13", "not by a room below 64", "not by a state that is none"],
+        "flash lent": ["capacity -1", "capacity +0", "capacity +1"],
+        "record lent": [0, 11, 12, 13, 16],
+        "room lent": [0, 63, 64, 65, 512],
+        "run": ["none, fill 0", "none, fill not 0", *(f"fill {n}" for n in range(64)), "fill 64", "next at capacity +0", "next at capacity +1", "next mod 64 is fill", "next mod 64 is not fill"],
+        "frame begun": [*range(64), *(f"{name} alone wrong" for name in ("AA", "55", "command", "status", "length", "place")), "command 5", "command 6", "status 7", "status 8", "length 52",
+                        "length 53", "at its end -1", "at its end +0", "bytes not yet read do not count"],
+        "setup": [f"erase size {n}" for n in (0, 63, 64, 65, 32, 96, 32768, 32769, 32832)] + [f"capacity {n}" for n in (0, 63, 64, 65, 65535, 65536, 65537, 65600)]
+        + ["capacity a multiple of 64 alone"] + [f"id length {n}" for n in (0, 1, 16, 17, 255)],
+        "line": [*model.Bench.COUNTS, "no such letter", "no digit", "half a byte", *(f"{letter}: too few" for letter in "sncmfrpqb"), *(f"{letter}: too many" for letter in "sncmfrpqbxod"),
+                 *(f"{letter}: past its limit" for letter in "ncmfpqb")],
+    }
+    return {group: [str(point) for point in found] for group, found in points.items()}
+
+
+CHECKS = ("no checksum, an app", "no checksum, no app", "checksum right", "checksum wrong", "size above capacity")
+
+
+def missing(seen):
+    return [f"{group}: {point}" for group, points in wanted().items() for point in points if not seen[group, point]]
+
+
+def text(seen):
+    """The counts, a line to a group; runs of numbers are told together."""
+    lines = []
+    for group, points in wanted().items():
+        if len(points) > 60 and all(point.isdecimal() for point in points):
+            counts = [seen[group, point] for point in points]
+            lines.append(f"{group}: each of {points[0]} to {points[-1]}, {min(counts)} to {max(counts)} times")
+        else:
+            lines.append(f"{group}: " + ", ".join(f"{point} {seen[group, point]}" if not point.isdecimal() else f"{point}: {seen[group, point]}" for point in points))
+    return lines
