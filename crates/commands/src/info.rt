@@ -1,7 +1,7 @@
 // Translated from tinyboot, lib/core/src/protocol.rs (MIT OR Apache-2.0); changed.
 
-use platform::boot_meta_store;
 use flash::cells::byte_at;
+use platform::boot_meta_store;
 use tinyboot_protocol::le;
 ghost use mathlib.Core.Path.{_≡_};
 ghost use lib.ListN.{length};

@@ -1,9 +1,9 @@
 // Translated from tinyboot, lib/core/src/protocol.rs (MIT OR Apache-2.0); changed.
 
 use crate::fields;
-use platform::boot_meta_store;
 use flash::cells::byte_at;
 use flash::cells::first;
+use platform::boot_meta_store;
 use platform::traits::BootState;
 use tinyboot_protocol::COMPAT_UNSET;
 use tinyboot_protocol::Status;

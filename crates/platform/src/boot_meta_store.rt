@@ -1,9 +1,9 @@
 // Translated from tinyboot, ch32/src/platform/boot_meta_store.rs (MIT OR Apache-2.0); changed: the record is a lent array of 12 bytes.
 
+use crate::traits::BootState;
 use flash::cells::byte_at;
 use flash::cells::lay;
 use flash::cells::put;
-use crate::traits::BootState;
 use tinyboot_protocol::le;
 ghost use mathlib.Core.Path.{_≡_};
 ghost use mathlib.Core.Bool.{not};

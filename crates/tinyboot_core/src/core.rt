@@ -1,7 +1,7 @@
 // Translated from tinyboot, lib/core/src/core.rs (MIT OR Apache-2.0); changed: the decision alone, over a lent flash and record.
 
-use platform::boot_meta_store;
 use flash::cells::first;
+use platform::boot_meta_store;
 use platform::traits;
 use platform::traits::BootState;
 use tinyboot_protocol::RunMode;
