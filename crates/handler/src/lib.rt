@@ -66,13 +66,9 @@ pub fn loaded(len: u16, fill: usize, next: u32) -> Handled
 fn restart(status: Status, fill: usize, next: u32) -> Handled
     ensures { λ r. ⌜ r ≡ restartTo status fill next ⌝ }
 {
-    Handled {
-        status: status,
-        len: 0,
-        restart: is_ok(status),
-        fill: fill,
-        next: next,
-    }
+    let mut h = bare(status, fill, next);
+    h.restart = is_ok(status);
+    h
 }
 
 // The CRC that a Verify replies.
