@@ -3,7 +3,7 @@ counted where that limit alone decides. `wanted` has every point that the stored
 from collections import Counter
 
 import model
-from model import ADDRESS, BAUD, COMMAND, DATA, ERASE, FLAGS, INFO, KEY_UNSET, LENGTH, RECEIVED_CRC, RESET, SELECT, STATE, STATUS, TRIALS, VERIFY, WRITE, low_first
+from model import ADDRESS, BAUD, COMMAND, DATA, FLAGS, KEY_UNSET, LENGTH, RECEIVED_CRC, SELECT, STATE, STATUS, TRIALS, low_first
 
 COMMANDS = ("Info", "Erase", "Write", "Verify", "Reset", "Select")
 STATUSES = ("Request", "Ok", "WriteError", "CrcMismatch", "AddrOutOfBounds", "Unsupported", "PayloadOverflow", "Incompatible")
@@ -275,7 +275,7 @@ class Counted(model.Device):
         if 0 < size <= capacity and setup.key != KEY_UNSET:
             at = (size - 6) % 2**32
             found = low_first(self.flash[at:at + 4]) if at < 65596 else None
-            if size <= 10:
+            if 1 < size <= 10:
                 self.note("Verify", f"a key, size {size}")
             self.note("Verify", "a key, at no multiple of 4" if at % 4 else "a key, its place below 0" if at >= capacity else
                       "a key, right" if found == setup.key else f"a key, wrong in byte {first_byte(found ^ setup.key)}")
@@ -427,7 +427,7 @@ def wanted():
         "Write fill before": range(64),
         "Write fill after": range(64),
         "Verify": [f"refused by state {state}" for state in STATE_NAMES if state != "7F"] + ["taken, state 7F", "refused by state before size", "over a record with trials or baud", "a run is open"]
-        + [f"{key}, size {n}" for key in ("no key", "a key") for n in ("0", "1", "capacity", "capacity + 1", "above 16 bits")] + [f"a key, size {n}" for n in range(1, 11)]
+        + [f"{key}, size {n}" for key in ("no key", "a key") for n in ("0", "1", "capacity", "capacity + 1", "above 16 bits")] + [f"a key, size {n}" for n in range(2, 11)]
         + [f"a key, {what}" for what in ("at no multiple of 4", "its place below 0", "right", "in the last place", "right but at no multiple of 4", *(f"wrong in byte {n}" for n in range(4)))],
         "Info": [f"size {n}" for n in ("0", "1", "2", "3", "capacity - 1", "capacity", "capacity + 1", "capacity + 2", "none", "elsewhere, below", "elsewhere, above")]
         + [f"baud {n}" for n in (0, 13, 14, 255)] + ["with data"],
@@ -475,5 +475,5 @@ def text(seen):
             counts = [seen[group, point] for point in points]
             lines.append(f"{group}: each of {points[0]} to {points[-1]}, {min(counts)} to {max(counts)} times")
         else:
-            lines.append(f"{group}: " + ", ".join(f"{point} {seen[group, point]}" if not point.isdecimal() else f"{point}: {seen[group, point]}" for point in points))
+            lines.append(f"{group}: " + "; ".join(f"{point}: {seen[group, point]}" for point in points))
     return lines
