@@ -190,7 +190,7 @@ fn finish(f: &[u8], n: usize, device: bool, high: u8) -> Kind
     Kind::CrcMismatch
 }
 
-fn head(f: &mut [u8; 64], got: usize, device: bool, b: u8) -> Step
+fn head(f: &mut [u8], got: usize, device: bool, b: u8) -> Step
     requires { ⌜ (2 ≤ got) × (got < 10) × Well 52 device (now f) got ⌝ }
     ensures { λ r. ⌜ After 52 device (now (f .entry)) got (b ∷ []) (now (f .exit)) (r .got) (r .end) ⌝ }
 {
@@ -212,7 +212,7 @@ fn head(f: &mut [u8; 64], got: usize, device: bool, b: u8) -> Step
 }
 
 // m bytes from at on, copied to got and on.
-fn fill(f: &mut [u8; 64], got: usize, bytes: &[u8], at: usize, m: usize)
+fn fill(f: &mut [u8], got: usize, bytes: &[u8], at: usize, m: usize)
     requires { ⌜ (length (now f) ≡ 64) × (got + m ≤ 64) × (at + m ≤ length (now bytes)) ⌝ }
     ensures { λ r. ⌜ now (f .exit) ≡ paste (now (f .entry)) got (drop at (now (bytes .entry))) m ⌝ }
 {
@@ -248,7 +248,7 @@ fn least(a: usize, b: usize) -> usize
 }
 
 // The CRC's two bytes.
-fn tail(f: &mut [u8; 64], got: usize, device: bool, b: u8) -> Step
+fn tail(f: &mut [u8], got: usize, device: bool, b: u8) -> Step
     requires { ⌜ (10 ≤ got) × (10 + lenOf (now f) ≤ got) × Well 52 device (now f) got ⌝ }
     ensures { λ r. ⌜ After 52 device (now (f .entry)) got (b ∷ []) (now (f .exit)) (r .got) (r .end) ⌝ }
 {
@@ -269,7 +269,7 @@ fn tail(f: &mut [u8; 64], got: usize, device: bool, b: u8) -> Step
 }
 
 // A byte that is not data.
-fn push(f: &mut [u8; 64], got: usize, device: bool, b: u8) -> Step
+fn push(f: &mut [u8], got: usize, device: bool, b: u8) -> Step
     requires { ⌜ (10 ≤ got → 10 + lenOf (now f) ≤ got) × Well 52 device (now f) got ⌝ }
     ensures { λ r. ⌜ After 52 device (now (f .entry)) got (b ∷ []) (now (f .exit)) (r .got) (r .end) ⌝ }
 {
@@ -287,7 +287,7 @@ fn push(f: &mut [u8; 64], got: usize, device: bool, b: u8) -> Step
 }
 
 // One turn, from the byte at `at`: as many data bytes as are wanted and at hand, or one byte that is not data.
-fn take_turn(f: &mut [u8; 64], got: usize, device: bool, bytes: &[u8], at: usize) -> Turn
+fn take_turn(f: &mut [u8], got: usize, device: bool, bytes: &[u8], at: usize) -> Turn
     requires { ⌜ (at < length (now bytes)) × Well 52 device (now f) got ⌝ }
     ensures { λ r. ⌜ Turned 52 device (now (f .entry)) got (now (bytes .entry)) at (now (f .exit)) (r .got) (r .taken) (r .end) ⌝ }
 {
@@ -322,7 +322,7 @@ fn told(k: Kind) -> Stop
     }
 }
 
-fn pass(f: &mut [u8; 64], start: usize, device: bool, bytes: &[u8]) -> Passed
+fn pass(f: &mut [u8], start: usize, device: bool, bytes: &[u8]) -> Passed
     requires { ⌜ Well 52 device (now f) start ⌝ }
     ensures { λ r. ⌜ seen (now (f .exit)) (r .got) (r .taken) (r .stop) ≡ outOf 52 (now (f .entry)) (length (now (bytes .entry))) (readFrame 52 device (begun 52 (now (f .entry)) start ++ now (bytes .entry))) ⌝ }
 {
