@@ -13,3 +13,4 @@ pub mod Vectors
 pub mod Keys
 pub mod Rates
 pub mod Versions
+pub mod Parts

@@ -18,7 +18,7 @@ ghost use Rattle.tinyboot_protocol.specs.Crc.{crcOf};
 ghost use Rattle.tinyboot_protocol.specs.Info.{infoBytes};
 ghost use Rattle.tinyboot_protocol.specs.Reading.{lenOf, overhears, verdictOf, checked, kindStatus, readFrame};
 ghost use Rattle.tinyboot_protocol.specs.Sent.{sealed, sent, sendOf};
-ghost use Rattle.tinyboot_protocol.specs.Stored.{newFrame, framed, begun, goes, wellOf, Well, wantedOf, After, Turned, outOf, ended, saidOf, seen, readOf};
+ghost use Rattle.tinyboot_protocol.specs.Stored.{newFrame, framed, begun, goes, wellOf, Well, wantedOf, After, Turned, outOf, ended, saidOf, seen, readOf, partOf};
 
 // The largest payload that a request may carry. With the 12 bytes of framing a full frame is 64 bytes.
 pub const DEFAULT_PAYLOAD: usize = 52;
@@ -394,12 +394,22 @@ pub fn is_beginning(f: &[u8; 64], got: usize, device: bool) -> bool
     well(f, got, device)
 }
 
-// Takes bytes until the first frame has ended, into a lent frame of which `got` bytes have begun: nothing is copied but the bytes. A device
-// overhears what is no request; the desk reads every status.
-pub fn read_in(f: &mut [u8; 64], got: usize, device: bool, bytes: &[u8]) -> Passed
-    ensures { λ r. ⌜ seen (now (f .exit)) (r .got) (r .taken) (r .stop) ≡ readOf 52 device (now (f .entry)) got (now (bytes .entry)) ⌝ }
+// Whether a lent slice holds a true beginning of a frame, `got` bytes of it: one that is not as long as a frame holds none.
+pub fn begins(f: &[u8], got: usize, device: bool) -> bool
+    ensures { λ r. ⌜ r ≡ (eqb (length (now (f .entry))) 64 && wellOf 52 device (now (f .entry)) got) ⌝ }
 {
-    if well(f, got, device) {
+    if f.len() == 64 {
+        return well(f, got, device);
+    }
+    false
+}
+
+// Takes bytes until the first frame has ended, into a lent slice that holds a frame of which `got` bytes have begun: nothing is copied but the bytes. A
+// device overhears what is no request; the desk reads every status.
+pub fn read_part(f: &mut [u8], got: usize, device: bool, bytes: &[u8]) -> Passed
+    ensures { λ r. ⌜ seen (now (f .exit)) (r .got) (r .taken) (r .stop) ≡ partOf 52 device (now (f .entry)) got (now (bytes .entry)) ⌝ }
+{
+    if begins(f, got, device) {
         f[0] = Sync::VALID.0;
         f[1] = Sync::VALID.1;
         return pass(f, got, device, bytes);
@@ -409,6 +419,13 @@ pub fn read_in(f: &mut [u8; 64], got: usize, device: bool, bytes: &[u8]) -> Pass
         taken: 0,
         stop: Stop::Refused,
     }
+}
+
+// The same of a frame's array.
+pub fn read_in(f: &mut [u8; 64], got: usize, device: bool, bytes: &[u8]) -> Passed
+    ensures { λ r. ⌜ seen (now (f .exit)) (r .got) (r .taken) (r .stop) ≡ readOf 52 device (now (f .entry)) got (now (bytes .entry)) ⌝ }
+{
+    read_part(f, got, device, bytes)
 }
 
 fn read_frame(frame: Frame, device: bool, bytes: &[u8]) -> Taken
