@@ -98,7 +98,7 @@ pub fn well_formed(capacity: usize, f: &[u8; 64], got: usize, fill: usize, next:
 }
 
 // What is not 12 bytes of record, not the capacity of flash, or less than 64 bytes of room, in the table's order.
-fn of_lengths(capacity: usize, flash: usize, meta: usize, room: usize, closed: bool) -> Refusal
+pub fn of_lengths(capacity: usize, flash: usize, meta: usize, room: usize, closed: bool) -> Refusal
     ensures { λ r. ⌜ refusalNumber r ≡ lengthsOf 52 capacity flash meta room closed ⌝ }
 {
     if flash != capacity {

@@ -7,3 +7,4 @@ pub mod Loop
 pub mod Anywhere
 pub mod Sealing
 pub mod Vectors
+pub mod Parts

@@ -100,6 +100,12 @@ readOf cap device f g l =
     (outOf cap (ready f) (length l) (readFrame cap device (begun cap f g ++ l)))
     (record { bytes = f; got = g; taken = 0; said = refused })
 
+-- the same of any list: one that is not as long as a frame is none, and is refused
+unfoldable pub partOf : ℕ → Bool → List ℕ → ℕ → List ℕ → Read
+partOf cap device f g l =
+    pick (eqb (length f) (12 + cap)) (readOf cap device f g l)
+    (record { bytes = f; got = g; taken = 0; said = refused })
+
 -- below here: what the functions under the public call promise each other
 
 -- a true beginning whose AA 55 is laid

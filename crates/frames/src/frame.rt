@@ -18,7 +18,7 @@ ghost use Rattle.tinyboot_protocol.specs.Crc.{crcOf};
 ghost use Rattle.frames.specs.Info.{infoBytes};
 ghost use Rattle.frames.specs.Reading.{lenOf, overhears, verdictOf, checked, kindStatus, readFrame};
 ghost use Rattle.frames.specs.Sent.{sealed, sent, sendOf};
-ghost use Rattle.frames.specs.Stored.{newFrame, framed, begun, goes, wellOf, Well, wantedOf, After, Turned, outOf, ended, saidOf, seen, readOf};
+ghost use Rattle.frames.specs.Stored.{newFrame, framed, begun, goes, wellOf, Well, wantedOf, After, Turned, outOf, ended, saidOf, seen, readOf, partOf};
 
 // The largest payload that a request may carry. With the 12 bytes of framing a full frame is 64 bytes.
 pub const DEFAULT_PAYLOAD: usize = 52;
@@ -190,7 +190,7 @@ fn finish(f: &[u8], n: usize, device: bool, high: u8) -> Kind
     Kind::CrcMismatch
 }
 
-fn head(f: &mut [u8; 64], got: usize, device: bool, b: u8) -> Step
+fn head(f: &mut [u8], got: usize, device: bool, b: u8) -> Step
     requires { ⌜ (2 ≤ got) × (got < 10) × Well 52 device (now f) got ⌝ }
     ensures { λ r. ⌜ After 52 device (now (f .entry)) got (b ∷ []) (now (f .exit)) (r .got) (r .end) ⌝ }
 {
@@ -212,7 +212,7 @@ fn head(f: &mut [u8; 64], got: usize, device: bool, b: u8) -> Step
 }
 
 // m bytes from at on, copied to got and on.
-fn fill(f: &mut [u8; 64], got: usize, bytes: &[u8], at: usize, m: usize)
+fn fill(f: &mut [u8], got: usize, bytes: &[u8], at: usize, m: usize)
     requires { ⌜ (length (now f) ≡ 64) × (got + m ≤ 64) × (at + m ≤ length (now bytes)) ⌝ }
     ensures { λ r. ⌜ now (f .exit) ≡ paste (now (f .entry)) got (drop at (now (bytes .entry))) m ⌝ }
 {
@@ -248,7 +248,7 @@ fn least(a: usize, b: usize) -> usize
 }
 
 // The CRC's two bytes.
-fn tail(f: &mut [u8; 64], got: usize, device: bool, b: u8) -> Step
+fn tail(f: &mut [u8], got: usize, device: bool, b: u8) -> Step
     requires { ⌜ (10 ≤ got) × (10 + lenOf (now f) ≤ got) × Well 52 device (now f) got ⌝ }
     ensures { λ r. ⌜ After 52 device (now (f .entry)) got (b ∷ []) (now (f .exit)) (r .got) (r .end) ⌝ }
 {
@@ -269,7 +269,7 @@ fn tail(f: &mut [u8; 64], got: usize, device: bool, b: u8) -> Step
 }
 
 // A byte that is not data.
-fn push(f: &mut [u8; 64], got: usize, device: bool, b: u8) -> Step
+fn push(f: &mut [u8], got: usize, device: bool, b: u8) -> Step
     requires { ⌜ (10 ≤ got → 10 + lenOf (now f) ≤ got) × Well 52 device (now f) got ⌝ }
     ensures { λ r. ⌜ After 52 device (now (f .entry)) got (b ∷ []) (now (f .exit)) (r .got) (r .end) ⌝ }
 {
@@ -287,7 +287,7 @@ fn push(f: &mut [u8; 64], got: usize, device: bool, b: u8) -> Step
 }
 
 // One turn, from the byte at `at`: as many data bytes as are wanted and at hand, or one byte that is not data.
-fn take_turn(f: &mut [u8; 64], got: usize, device: bool, bytes: &[u8], at: usize) -> Turn
+fn take_turn(f: &mut [u8], got: usize, device: bool, bytes: &[u8], at: usize) -> Turn
     requires { ⌜ (at < length (now bytes)) × Well 52 device (now f) got ⌝ }
     ensures { λ r. ⌜ Turned 52 device (now (f .entry)) got (now (bytes .entry)) at (now (f .exit)) (r .got) (r .taken) (r .end) ⌝ }
 {
@@ -322,7 +322,7 @@ fn told(k: Kind) -> Stop
     }
 }
 
-fn pass(f: &mut [u8; 64], start: usize, device: bool, bytes: &[u8]) -> Passed
+fn pass(f: &mut [u8], start: usize, device: bool, bytes: &[u8]) -> Passed
     requires { ⌜ Well 52 device (now f) start ⌝ }
     ensures { λ r. ⌜ seen (now (f .exit)) (r .got) (r .taken) (r .stop) ≡ outOf 52 (now (f .entry)) (length (now (bytes .entry))) (readFrame 52 device (begun 52 (now (f .entry)) start ++ now (bytes .entry))) ⌝ }
 {
@@ -394,12 +394,22 @@ pub fn is_beginning(f: &[u8; 64], got: usize, device: bool) -> bool
     well(f, got, device)
 }
 
-// Takes bytes until the first frame has ended, into a lent frame of which `got` bytes have begun: nothing is copied but the bytes. A device
-// overhears what is no request; the desk reads every status.
-pub fn read_in(f: &mut [u8; 64], got: usize, device: bool, bytes: &[u8]) -> Passed
-    ensures { λ r. ⌜ seen (now (f .exit)) (r .got) (r .taken) (r .stop) ≡ readOf 52 device (now (f .entry)) got (now (bytes .entry)) ⌝ }
+// Whether a lent slice holds a true beginning of a frame, `got` bytes of it: one that is not as long as a frame holds none.
+pub fn begins(f: &[u8], got: usize, device: bool) -> bool
+    ensures { λ r. ⌜ r ≡ (eqb (length (now (f .entry))) 64 && wellOf 52 device (now (f .entry)) got) ⌝ }
 {
-    if well(f, got, device) {
+    if f.len() == 64 {
+        return well(f, got, device);
+    }
+    false
+}
+
+// Takes bytes until the first frame has ended, into a lent slice that holds a frame of which `got` bytes have begun: nothing is copied but the bytes. A
+// device overhears what is no request; the desk reads every status.
+pub fn read_part(f: &mut [u8], got: usize, device: bool, bytes: &[u8]) -> Passed
+    ensures { λ r. ⌜ seen (now (f .exit)) (r .got) (r .taken) (r .stop) ≡ partOf 52 device (now (f .entry)) got (now (bytes .entry)) ⌝ }
+{
+    if begins(f, got, device) {
         f[0] = Sync::VALID.0;
         f[1] = Sync::VALID.1;
         return pass(f, got, device, bytes);
@@ -409,6 +419,13 @@ pub fn read_in(f: &mut [u8; 64], got: usize, device: bool, bytes: &[u8]) -> Pass
         taken: 0,
         stop: Stop::Refused,
     }
+}
+
+// The same of a frame's array.
+pub fn read_in(f: &mut [u8; 64], got: usize, device: bool, bytes: &[u8]) -> Passed
+    ensures { λ r. ⌜ seen (now (f .exit)) (r .got) (r .taken) (r .stop) ≡ readOf 52 device (now (f .entry)) got (now (bytes .entry)) ⌝ }
+{
+    read_part(f, got, device, bytes)
 }
 
 fn read_frame(frame: Frame, device: bool, bytes: &[u8]) -> Taken

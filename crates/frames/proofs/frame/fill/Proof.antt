@@ -10,13 +10,13 @@ use Rattle.frames.proofs.frame.fill.Statement.{statement}
 use Rattle.frames.proofs.frame.fill.Tie as tie
 
 abbrev Inv-loop : tie.InvT-loop
-Inv-loop f₀ got bytes at m j₀ f j = (j ≤ m) × (f ≡ paste f₀ got (drop at bytes) j)
+Inv-loop f₀ got bytes at m j₀ f j = (j ≤ m) × (f ≡ paste f₀ got (drop at bytes) j) × (length f ≡ 64)
 
 abbrev μ-loop : tie.MeasureT-loop
 μ-loop f₀ got bytes at m j₀ f j = m - j
 
 loop-holds : tie.Need-loop-holds Inv-loop μ-loop
-loop-holds c = (omega arith, paste-zero (c .args .f .now) (c .args .got) (drop (c .args .at) (c .args .bytes .now)))
+loop-holds c = (omega arith, paste-zero (c .args .f .now) (c .args .got) (drop (c .args .at) (c .args .bytes .now)), c .pre .0)
 
 add-f : tie.Need-add-f Inv-loop μ-loop
 add-f c = search needs
@@ -27,8 +27,8 @@ shared-slice-read-f c = search needs
 add-f-2 : tie.Need-add-f-2 Inv-loop μ-loop
 add-f-2 c = search needs
 
-element-write-f : tie.Need-element-write-f Inv-loop μ-loop
-element-write-f c = search needs
+slice-write-f : tie.Need-slice-write-f Inv-loop μ-loop
+slice-write-f c = search needs
 
 add-j : tie.Need-add-j Inv-loop μ-loop
 add-j c = search needs
@@ -45,7 +45,10 @@ loop-again c =
     let n : length d ≡ length (a .bytes .now) - a .at = length-drop (a .at) (a .bytes .now) in
     let e : getD d (v .j) 0 ≡ getD (a .bytes .now) (a .at + v .j) 0 = getD-drop (a .at) (a .bytes .now) (v .j) 0 in
     let s = paste-suc (a .f .now) (a .got) d (v .j) 0 (omega arith) (omega arith) in
-    (omega arith, rw (v .inv .1, add-one, ← e) s)
+    (omega arith, rw (v .inv .1, add-one, ← e) s, search needs)
+
+same-length : tie.Need-same-length Inv-loop μ-loop
+same-length c = search needs
 
 returns : tie.Need-returns Inv-loop μ-loop
 returns c =
@@ -63,8 +66,9 @@ fill-spec =
     add-f
     shared-slice-read-f
     add-f-2
-    element-write-f
+    slice-write-f
     add-j
     loop-less
     loop-again
+    same-length
     returns)

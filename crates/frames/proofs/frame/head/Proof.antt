@@ -5,16 +5,19 @@ use borrow.Author.Needs.{needs}
 use Rattle.frames.proofs.frame.head.Statement.{statement}
 use Rattle.frames.proofs.frame.head.Tie as tie
 
-element-write-f : tie.Need-element-write-f
-element-write-f c = search needs
+slice-write-f : tie.Need-slice-write-f
+slice-write-f c = search needs
 
-add-t9 : tie.Need-add-t9
-add-t9 c = search needs
+add-t8 : tie.Need-add-t8
+add-t8 c = search needs
+
+same-length : tie.Need-same-length
+same-length c = search needs
 
 returns : tie.Need-returns
 returns c =
-    let a = c .before .args in
-    header-step 52 (a .device) (a .f .now) (a .got) (c .before .pre .2) (a .b) (omega arith) (omega arith)
+    let a = c .before .before .args in
+    header-step 52 (a .device) (a .f .now) (a .got) (c .before .before .pre .2) (a .b) (omega arith) (omega arith)
 
 verdict-requires : tie.Need-verdict-requires
 verdict-requires c κs = search needs
@@ -22,8 +25,11 @@ verdict-requires c κs = search needs
 enum-told : tie.Need-enum-told
 enum-told c = search needs
 
-add-t13 : tie.Need-add-t13
-add-t13 c = search needs
+add-t12 : tie.Need-add-t12
+add-t12 c = search needs
+
+same-length-2 : tie.Need-same-length-2
+same-length-2 c = search needs
 
 returns-2 : tie.Need-returns-2
 returns-2 c =
@@ -32,6 +38,9 @@ returns-2 c =
 
 enum-told-2 : tie.Need-enum-told-2
 enum-told-2 c = search needs
+
+same-length-3 : tie.Need-same-length-3
+same-length-3 c = search needs
 
 returns-3 : tie.Need-returns-3
 returns-3 c =
@@ -43,12 +52,15 @@ pub head-spec : {M : Type 1} → statement M
 head-spec =
     tie.close
     (tie.spec
-    element-write-f
-    add-t9
+    slice-write-f
+    add-t8
+    same-length
     returns
     verdict-requires
     enum-told
-    add-t13
+    add-t12
+    same-length-2
     returns-2
     enum-told-2
+    same-length-3
     returns-3)

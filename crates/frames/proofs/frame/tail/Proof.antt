@@ -23,11 +23,14 @@ place c =
 add-if1 : tie.Need-add-if1
 add-if1 c = search needs
 
-element-write-f : tie.Need-element-write-f
-element-write-f c = search needs
+slice-write-f : tie.Need-slice-write-f
+slice-write-f c = search needs
 
-add-t13 : tie.Need-add-t13
-add-t13 c = search needs
+add-t12 : tie.Need-add-t12
+add-t12 c = search needs
+
+same-length : tie.Need-same-length
+same-length c = search needs
 
 returns : tie.Need-returns
 returns c =
@@ -37,18 +40,21 @@ returns c =
 
 finish-requires : tie.Need-finish-requires
 finish-requires c κs =
-    let p = c .before .before .before .before .before .before .pre in
-    (p .2 .whole, omega (arith, place (c .before .before .before)), c .before .before .before .len .ensures .0)
+    let p = c .before .before .before .before .before .pre in
+    (p .2 .whole, omega (arith, place (c .before .before)), c .before .before .len .ensures .0)
 
-element-write-f-2 : tie.Need-element-write-f-2
-element-write-f-2 c = search needs
+slice-write-f-2 : tie.Need-slice-write-f-2
+slice-write-f-2 c = search needs
+
+same-length-2 : tie.Need-same-length-2
+same-length-2 c = search needs
 
 returns-2 : tie.Need-returns-2
 returns-2 c =
-    let a = c .before .before .before .before .before .before .before .args in
-    let p = c .before .before .before .before .before .before .before .pre in
-    rw (c .finish .ensures, c .before .before .before .before .len .ensures .0)
-    (high-step 52 (a .device) (a .f .now) (a .got) (p .2) (p .0) (a .b) (omega (arith, place (c .before .before .before .before))))
+    let a = c .before .before .before .before .before .before .args in
+    let p = c .before .before .before .before .before .before .pre in
+    rw (c .finish .ensures, c .before .before .before .len .ensures .0)
+    (high-step 52 (a .device) (a .f .now) (a .got) (p .2) (p .0) (a .b) (omega (arith, place (c .before .before .before))))
 
 pub tail-spec : {M : Type 1} → statement M
 tail-spec =
@@ -56,9 +62,11 @@ tail-spec =
     (tie.spec
     len-requires
     add-if1
-    element-write-f
-    add-t13
+    slice-write-f
+    add-t12
+    same-length
     returns
     finish-requires
-    element-write-f-2
+    slice-write-f-2
+    same-length-2
     returns-2)

@@ -17,11 +17,15 @@ push-requires c κs =
     let p = c .before .before .before .before .before .before .before .pre in
     (wanted-none 52 (a .device) (a .f .now) (a .got) (p .1) (sym (c .before .before .before .wanted .ensures) ∙ c .before .before .if1 .taken), p .1)
 
+same-length : tie.Need-same-length
+same-length c = search needs
+
 returns : tie.Need-returns
 returns c =
-    let a = c .before .before .before .before .before .before .before .before .args in
-    let p = c .before .before .before .before .before .before .before .before .pre in
-    byte-turn 52 (a .device) (a .f .now) (a .got) (p .1) (a .bytes .now) (a .at) (p .0) (c .push .last .0) (c .push .result .got) (c .push .result .end) (c .push .ensures)
+    let a = c .before .before .before .before .before .before .before .before .before .before .args in
+    let p = c .before .before .before .before .before .before .before .before .before .before .pre in
+    let u = c .before .before .push in
+    byte-turn 52 (a .device) (a .f .now) (a .got) (p .1) (a .bytes .now) (a .at) (p .0) (u .last .0) (u .result .got) (u .result .end) (u .ensures)
 
 sub-least : tie.Need-sub-least
 sub-least c = search needs
@@ -36,20 +40,25 @@ fill-requires c κs =
     let e = c .before .before .before .wanted .ensures in
     wanted-fits 52 (a .device) (a .f .now) (a .got) (p .1) (a .bytes .now) (a .at) (c .before .least .result) (p .0) (λ z. c .before .before .if1 .left (e ∙ z)) (rw e at (c .before .least .ensures))
 
-add-t16 : tie.Need-add-t16
-add-t16 c =
-    let a = c .before .before .before .before .before .before .before .before .args in
-    let p = c .before .before .before .before .before .before .before .before .pre in
-    let e = c .before .before .before .before .wanted .ensures in
-    omega (arith, wanted-fits 52 (a .device) (a .f .now) (a .got) (p .1) (a .bytes .now) (a .at) (c .before .before .least .result) (p .0) (λ z. c .before .before .before .if1 .left (e ∙ z)) (rw e at (c .before .before .least .ensures)))
+add-t17 : tie.Need-add-t17
+add-t17 c =
+    let a = c .before .before .before .before .before .before .before .before .before .before .args in
+    let p = c .before .before .before .before .before .before .before .before .before .before .pre in
+    let e = c .before .before .before .before .before .before .wanted .ensures in
+    let m = c .before .before .before .before .least in
+    omega (arith, wanted-fits 52 (a .device) (a .f .now) (a .got) (p .1) (a .bytes .now) (a .at) (m .result) (p .0) (λ z. c .before .before .before .before .before .if1 .left (e ∙ z)) (rw e at (m .ensures)))
+
+same-length-2 : tie.Need-same-length-2
+same-length-2 c = search needs
 
 returns-2 : tie.Need-returns-2
 returns-2 c =
-    let a = c .before .before .before .before .before .before .before .before .args in
-    let p = c .before .before .before .before .before .before .before .before .pre in
-    let e = c .before .before .before .before .wanted .ensures in
-    rw (c .fill .ensures)
-    (wanted-turn 52 (a .device) (a .f .now) (a .got) (p .1) (a .bytes .now) (a .at) (c .before .before .least .result) (p .0) (λ z. c .before .before .before .if1 .left (e ∙ z)) (rw e at (c .before .before .least .ensures)))
+    let a = c .before .before .before .before .before .before .before .before .before .before .args in
+    let p = c .before .before .before .before .before .before .before .before .before .before .pre in
+    let e = c .before .before .before .before .before .before .wanted .ensures in
+    let m = c .before .before .before .before .least in
+    rw (c .before .before .fill .ensures)
+    (wanted-turn 52 (a .device) (a .f .now) (a .got) (p .1) (a .bytes .now) (a .at) (m .result) (p .0) (λ z. c .before .before .before .before .before .if1 .left (e ∙ z)) (rw e at (m .ensures)))
 
 pub take-turn-spec : {M : Type 1} → statement M
 take-turn-spec =
@@ -58,9 +67,11 @@ take-turn-spec =
     wanted-requires
     shared-slice-read-push
     push-requires
+    same-length
     returns
     sub-least
     least-requires
     fill-requires
-    add-t16
+    add-t17
+    same-length-2
     returns-2)
