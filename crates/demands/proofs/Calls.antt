@@ -65,7 +65,7 @@ named page erase capacity idLen e =
     let d = and-both (not (eqb capacity 0)) (leb capacity 65536 && eqb (capacity % erase) 0) (c .1) in
     (leb-true idLen 16 (b .1), leb-true capacity 65536 (and-both (leb capacity 65536) (eqb (capacity % erase) 0) (d .1) .0))
 
-module _ (s : Setup) (w : World) (y : Good s w) where
+module _ (s : Setup) (w : World) (y : Good 52 64 s w) where
   abbrev f : List ℕ
   f = w .state .frame .bytes
 
@@ -131,7 +131,7 @@ module _ (s : Setup) (w : World) (y : Good s w) where
             let z : _≡_ {A = ℕ} 0 11 = ap (λ (v : Said). v .number) a in
             absurd (omega arith)
 
-    pub quiet-good : Good s (quieted q)
+    pub quiet-good : Good 52 64 s (quieted q)
     unfolding wellFormed
     quiet-good =
         record {
@@ -233,7 +233,7 @@ module _ (s : Setup) (w : World) (y : Good s w) where
     pub told-of : (room : List ℕ) → Numbered (ending room)
     told-of = numbered s (kindStatus k) come (w .state .selected) (numbers (s .«id_len») (y .setup) .0) come-fit
 
-    pub ended-good : (room : List ℕ) → ending room .closed ≡ false → Good s (after (endedBy (length x - length r) (ending room)))
+    pub ended-good : (room : List ℕ) → ending room .closed ≡ false → Good 52 64 s (after (endedBy (length x - length r) (ending room)))
     unfolding wellFormed wellOf
     ended-good room c =
         let v = left-fit room in

@@ -37,7 +37,7 @@ module _ (s : Setup) where
 
   -- what is still to be shown of the calls that follow
   abbrev Rest : World → List ℕ → Story → Type 0
-  Rest v l t = Good s v → (n : ℕ) → length (whole 52 (v .state) l) < n → t ≡ told n v l
+  Rest v l t = Good 52 64 s v → (n : ℕ) → length (whole 52 (v .state) l) < n → t ≡ told n v l
 
   -- nothing is left to read
   stream-none : (n : ℕ) (h : Held) (b : Bool) → Fit s h → streamOf 52 64 s n h b [] ≡ ends h 0 b false
@@ -46,7 +46,7 @@ module _ (s : Setup) where
   stream-none (suc n) h b v =
       ap (λ (z : List ℕ). ends (held z (h .page) (h .fill) (h .next) (h .flash) (h .meta)) 0 b false) (store-none 52 true (h .bytes) (v .whole) (v .synced))
 
-  module _ (w : World) (y : Good s w) (x m room : List ℕ) (h : 64 ≤ length room) where
+  module _ (w : World) (y : Good 52 64 s w) (x m room : List ℕ) (h : 64 ≤ length room) where
     abbrev p : List ℕ
     p = begun 52 (w .state .frame .bytes) (w .state .frame .got)
 
@@ -172,12 +172,12 @@ module _ (s : Setup) where
         subst (λ (v : List ℕ). (c .told .number ≡ 3) ⊎ (drop (c .taken) v ≡ []) → noted c (stopped c) ≡ told (suc n) w v) (sym a) (stop-case n)
 
   -- call by call
-  cut : {w : World} {l : List ℕ} {t : Story} → Good s w → Runs ours s w l t → (n : ℕ) → length (whole 52 (w .state) l) < n → t ≡ told n w l
+  cut : {w : World} {l : List ℕ} {t : Story} → Good 52 64 s w → Runs 52 ours s w l t → (n : ℕ) → length (whole 52 (w .state) l) < n → t ≡ told n w l
   cut y (next {w} {l} {t} x m room a h not rest) n lt = next-any w y x m room h l a t n lt not (λ good k less. cut good rest k less)
   cut y (stop {w} {l} x m room a h u) n lt = stop-any w y x m room h l a n lt u
 
 -- a call in a good world is not refused, and leaves a good world unless it restarts
-module _ (s : Setup) (w : World) (y : Good s w) (x room : List ℕ) (h : 64 ≤ length room) where
+module _ (s : Setup) (w : World) (y : Good 52 64 s w) (x room : List ℕ) (h : 64 ≤ length room) where
   abbrev done : Called
   done = call ours s w x room
 
@@ -191,11 +191,11 @@ module _ (s : Setup) (w : World) (y : Good s w) (x room : List ℕ) (h : 64 ≤ 
       go (Begun q) e = rw (quiet-is s w y x q e room h) (omega arith)
       go (Ended k q r) e = rw (ended-is s w y x k q r e room h) (told-of s w y x k q r e room .few)
 
-  pub stays-good : (done .told .number ≡ 3 → ⊥) → Good s (after done)
+  pub stays-good : (done .told .number ≡ 3 → ⊥) → Good 52 64 s (after done)
   stays-good = go read refl
     where
       Goal : Called → Type 0
-      Goal v = (v .told .number ≡ 3 → ⊥) → Good s (after v)
+      Goal v = (v .told .number ≡ 3 → ⊥) → Good 52 64 s (after v)
 
       go : (o : Outcome) → read ≡ o → Goal done
       go (Begun q) e = subst Goal (sym (quiet-is s w y x q e room h)) (λ not. quiet-good s w y x q e)
@@ -217,7 +217,7 @@ module _ (s : Setup) (w : World) (y : Good s w) (x room : List ℕ) (h : 64 ≤ 
           (λ z. ended-closed s w y x k q r e room (told-of s w y x k q r e room .closes ∙ ap (λ (a : ℕ). eqb a 3) z))
 
 -- demand 3, of our device
-pub demand-3 : Demand3 ours
+pub demand-3 : Demand3 52 64 ours
 demand-3 =
     record {
       uncut = λ s w y l t k. cut s y k (suc (length (whole 52 (w .state) l))) (omega arith);

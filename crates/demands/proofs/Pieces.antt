@@ -15,7 +15,7 @@ use Rattle.demands.specs.Demand.{ours, World, Good, call, after, noted, 
 use Rattle.demands.proofs.Calls.{quiet-is, ended-is}
 use Rattle.demands.proofs.Cut.{demand-3}
 
-module _ (s : Setup) (w : World) (y : Good s w) (a b room : List ℕ) (h : 64 ≤ length room) where
+module _ (s : Setup) (w : World) (y : Good 52 64 s w) (a b room : List ℕ) (h : 64 ≤ length room) where
   abbrev c : Called
   c = call ours s w a room
 
@@ -44,18 +44,18 @@ module _ (s : Setup) (w : World) (y : Good s w) (a b room : List ℕ) (h : 64 �
   module _ (not : c .told .number ≡ 3 → ⊥) (other : List ℕ) (o : 64 ≤ length other) (t : Story) where
     -- alone, and the next piece after it
     pub rest-alone : (call ours s (after c) rest other .told .number ≡ 3 → ⊥) →
-        Runs ours s (after (call ours s (after c) rest other)) (drop (call ours s (after c) rest other .taken) (rest ++ b)) t →
+        Runs 52 ours s (after (call ours s (after c) rest other)) (drop (call ours s (after c) rest other .taken) (rest ++ b)) t →
         noted c (noted (call ours s (after c) rest other) t) ≡ storyOf 52 64 s (w .state) (a ++ b) (w .flash) (w .meta)
     rest-alone n k =
         let u : Story = noted (call ours s (after c) rest other) t in
         demand-3 .uncut s w y (a ++ b) (noted c u)
-        (next a b room refl h not (subst (λ (v : List ℕ). Runs ours s (after c) v u) (sym left) (next rest b other refl o n k)))
+        (next a b room refl h not (subst (λ (v : List ℕ). Runs 52 ours s (after c) v u) (sym left) (next rest b other refl o n k)))
 
     -- before the next piece, in one
     pub rest-first : (call ours s (after c) (rest ++ b) other .told .number ≡ 3 → ⊥) →
-        Runs ours s (after (call ours s (after c) (rest ++ b) other)) (drop (call ours s (after c) (rest ++ b) other .taken) (rest ++ b)) t →
+        Runs 52 ours s (after (call ours s (after c) (rest ++ b) other)) (drop (call ours s (after c) (rest ++ b) other .taken) (rest ++ b)) t →
         noted c (noted (call ours s (after c) (rest ++ b) other) t) ≡ storyOf 52 64 s (w .state) (a ++ b) (w .flash) (w .meta)
     rest-first n k =
         let u : Story = noted (call ours s (after c) (rest ++ b) other) t in
         demand-3 .uncut s w y (a ++ b) (noted c u)
-        (next a b room refl h not (subst (λ (v : List ℕ). Runs ours s (after c) v u) (sym left) (next (rest ++ b) [] other (sym (append-nil (rest ++ b))) o n k)))
+        (next a b room refl h not (subst (λ (v : List ℕ). Runs 52 ours s (after c) v u) (sym left) (next (rest ++ b) [] other (sym (append-nil (rest ++ b))) o n k)))

@@ -18,7 +18,7 @@ use Rattle.dispatcher.specs.Dispatch.{replyOf, answeredOf, obeyedOf, unaddresse
 use Rattle.feed.specs.Feed.{afterRead, takenOf, fedOf}
 use Rattle.demands.specs.Stream.{Story, streamOf}
 use Rattle.demands.specs.Devices.{acknowledging, greedy}
-use Rattle.demands.specs.Demand.{World, Good, Runs, next, stop, Demand3}
+use Rattle.demands.specs.Demand.{ours, World, Good, Runs, next, stop, Demand3}
 use Rattle.demands.specs.Sheet.{header, blank}
 
 -- a new unaddressed module of 64 bytes
@@ -28,7 +28,7 @@ module-of-64 = record { «erase_size» = 64; capacity = 64; id = replicate {A = 
 abbrev fresh : World
 fresh = record { state = newState 52 64 false; flash = blank 64; meta = blank 12 }
 
-good : Good module-of-64 fresh
+good : Good 52 64 module-of-64 fresh
 unfolding setUp eraseFits capacityFits wellFormed runFits wellOf
 good = record { setup = refl; whole = refl; formed = refl; unclosed = refl; flash = refl; meta = refl }
 
@@ -36,7 +36,7 @@ abbrev room : List ℕ
 room = replicate {A = ℕ} 64 0
 
 -- a command that is none, and an AA behind it: the AA is lost
-pub greedy-fails : Demand3 greedy → ⊥
+pub greedy-fails : Demand3 52 64 (greedy ours) → ⊥
 unfolding fedOf takenOf afterRead refusalOf setUp eraseFits capacityFits wellFormed runFits lengthsOf wellOf begun store hunt started verdictOf overhears checked dispatchOf unaddressedOf obeyedOf answeredOf replyOf sendOf sealed streamOf crcFrom bitsOf bits entered fold
 greedy-fails d =
     let l : List ℕ = header 6 0 0 ++ (0xAA ∷ []) in
@@ -45,7 +45,7 @@ greedy-fails d =
     omega arith
 
 -- the same command, and a call with nothing: a frame is answered that never came
-pub acknowledging-fails : Demand3 acknowledging → ⊥
+pub acknowledging-fails : Demand3 52 64 (acknowledging ours) → ⊥
 unfolding fedOf takenOf afterRead refusalOf setUp eraseFits capacityFits wellFormed runFits lengthsOf wellOf begun store hunt started verdictOf overhears checked dispatchOf unaddressedOf obeyedOf answeredOf replyOf sendOf sealed streamOf crcFrom bitsOf bits entered fold
 acknowledging-fails d =
     let l : List ℕ = header 6 0 0 in

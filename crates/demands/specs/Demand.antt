@@ -1,5 +1,5 @@
--- Demand 3: however a stream is cut into calls, it comes to what the uncut stream comes to.
-use Prim.Native.Nat.{ℕ, _≤_}
+-- Demand 3: however a stream is cut into calls, it comes to what the uncut stream comes to. `cap` is the payload capacity, `page` the page size.
+use Prim.Native.Nat.{ℕ, _+_, _≤_}
 use mathlib.Core.Path.{_≡_}
 use mathlib.Core.Bool.{true, false}
 use mathlib.Core.Logic.{_⊎_}
@@ -24,11 +24,11 @@ pub record World : Type 0 where
   pub flash : List ℕ
   pub meta : List ℕ
 
--- a good setup, a well-formed open state of 64 frame bytes, flash and record of the right lengths
-pub record Good (s : Setup) (w : World) : Type 0 where
-  pub setup : setUp 64 (s .«erase_size») (s .capacity) (s .«id_len») ≡ true
-  pub whole : length (w .state .frame .bytes) ≡ 64
-  pub formed : wellFormed 52 64 (s .capacity) (w .state .frame .bytes) (w .state .frame .got) (w .state .fill) (w .state .next) ≡ true
+-- a good setup, a well-formed open state with the bytes of a full frame, flash and record of the right lengths
+pub record Good (cap page : ℕ) (s : Setup) (w : World) : Type 0 where
+  pub setup : setUp page (s .«erase_size») (s .capacity) (s .«id_len») ≡ true
+  pub whole : length (w .state .frame .bytes) ≡ 12 + cap
+  pub formed : wellFormed cap page (s .capacity) (w .state .frame .bytes) (w .state .frame .got) (w .state .fill) (w .state .next) ≡ true
   pub unclosed : w .state .closed ≡ false
   pub flash : length (w .flash) ≡ s .capacity
   pub meta : length (w .meta) ≡ 12
@@ -46,17 +46,17 @@ noted c t = pick (eqb (c .told .number) 0) t (first (record { told = c .told; re
 abbrev pub stopped : Called → Story
 stopped c = record { events = []; state = c .state; flash = c .flash; meta = c .meta }
 
--- calls, each handed a beginning x, also the empty one, of the bytes l not yet taken, and a reply room of 64 bytes or more, until a restart is answered or
+-- calls, each handed a beginning x, also the empty one, of the bytes l not yet taken, and a reply room for a full frame, until a restart is answered or
 -- none is left
-pub data Runs (d : Device) (s : Setup) : World → List ℕ → Story → Type 0 where
-  next : {w : World} {l : List ℕ} {t : Story} (x m room : List ℕ) → l ≡ x ++ m → 64 ≤ length room → (call d s w x room .told .number ≡ 3 → ⊥) →
-      Runs d s (after (call d s w x room)) (drop (call d s w x room .taken) l) t → Runs d s w l (noted (call d s w x room) t)
-  stop : {w : World} {l : List ℕ} (x m room : List ℕ) → l ≡ x ++ m → 64 ≤ length room →
-      (call d s w x room .told .number ≡ 3) ⊎ (drop (call d s w x room .taken) l ≡ []) → Runs d s w l (noted (call d s w x room) (stopped (call d s w x room)))
+pub data Runs (cap : ℕ) (d : Device) (s : Setup) : World → List ℕ → Story → Type 0 where
+  next : {w : World} {l : List ℕ} {t : Story} (x m room : List ℕ) → l ≡ x ++ m → 12 + cap ≤ length room → (call d s w x room .told .number ≡ 3 → ⊥) →
+      Runs cap d s (after (call d s w x room)) (drop (call d s w x room .taken) l) t → Runs cap d s w l (noted (call d s w x room) t)
+  stop : {w : World} {l : List ℕ} (x m room : List ℕ) → l ≡ x ++ m → 12 + cap ≤ length room →
+      (call d s w x room .told .number ≡ 3) ⊎ (drop (call d s w x room .taken) l ≡ []) → Runs cap d s w l (noted (call d s w x room) (stopped (call d s w x room)))
 
 -- demand 3 of a device: what calls come to is the story of the uncut stream, and after an accepted Reset nothing more is taken
-pub record Demand3 (d : Device) : Type 0 where
-  pub uncut : (s : Setup) (w : World) → Good s w → (l : List ℕ) (t : Story) → Runs d s w l t → t ≡ storyOf 52 64 s (w .state) l (w .flash) (w .meta)
-  pub closed : (s : Setup) (w : World) → Good s w → (x room : List ℕ) → 64 ≤ length room → call d s w x room .told .number ≡ 3 →
-      (y other : List ℕ) → 64 ≤ length other →
+pub record Demand3 (cap page : ℕ) (d : Device) : Type 0 where
+  pub uncut : (s : Setup) (w : World) → Good cap page s w → (l : List ℕ) (t : Story) → Runs cap d s w l t → t ≡ storyOf cap page s (w .state) l (w .flash) (w .meta)
+  pub closed : (s : Setup) (w : World) → Good cap page s w → (x room : List ℕ) → 12 + cap ≤ length room → call d s w x room .told .number ≡ 3 →
+      (y other : List ℕ) → 12 + cap ≤ length other →
       call d s (after (call d s w x room)) y other ≡ refusedBy 15 (call d s w x room .state) (call d s w x room .flash) (call d s w x room .meta) other
