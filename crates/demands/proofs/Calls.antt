@@ -3,7 +3,7 @@ use Prim.Native.Nat.{ℕ, suc, _+_, _-_, _%_, _≤_, _<_}
 use mathlib.Core.Path.{_≡_, refl, sym, ap, _∙_}
 use mathlib.Core.Bool.{Bool, true, false, not, _&&_}
 use mathlib.Core.Logic.{_⊎_, inl, inr}
-use mathlib.Core.List.{List, [], _∷_, _++_, append-assoc, append-nil}
+use mathlib.Core.List.{List, [], _∷_, _++_, append-assoc}
 use native.Mathlib.Omega.{arith}
 use borrow.Author.Tests.{leb-true, ltb-true, eqb-true, eqb-false, eq-eqb, ne-eqb, lt-ltb, le-leb, le-ltb}
 use lib.ListN.{length, take, drop, replicate, length-append, take-append-drop}
@@ -14,10 +14,10 @@ use Rattle.laws.proofs.Bools.{and-both}
 use Rattle.frames.specs.declared.frame.Kind.{Kind}
 use Rattle.frames.specs.declared.frame.End.the-variants.{Going}
 use Rattle.frames.specs.Reading.{kindStatus, Outcome, Begun, Ended, readFrame}
-use Rattle.frames.specs.Stored.{Said, quiet, ended, refused, Read, begun, store, ready, outOf, wellOf, readOf, Well, After}
+use Rattle.frames.specs.Stored.{Read, begun, store, ready, outOf, wellOf, After}
 use Rattle.frames.proofs.Cut.{cut-ended}
 use Rattle.frames.proofs.Start.{Started, start-of}
-use Rattle.frames.proofs.Anywhere.{after-begun, left, cut-going}
+use Rattle.frames.proofs.Anywhere.{after-begun, left, of-well}
 use Rattle.writes.proofs.Runs.{Pending}
 use Rattle.device.specs.declared.Setup.{Setup}
 use Rattle.device.specs.declared.State.{State}
@@ -113,23 +113,7 @@ module _ (s : Setup) (w : World) (y : Good 52 64 s w) where
     on = after-begun 52 true (ready f) g (begins .well) x q (rw (begins .same) e)
 
     well-on : wellOf 52 true (store 52 (ready f) q) (length q) ≡ true
-    unfolding readOf
-    well-on = go (wellOf 52 true (store 52 (ready f) q) (length q)) refl
-      where
-        r : readOf 52 true f g x ≡ record { bytes = store 52 (ready f) q; got = length q; taken = length x; said = quiet }
-        r = simp (formed .1, e)
-
-        c : readOf 52 true f g (x ++ []) .said ≡ readOf 52 true (store 52 (ready f) q) (length q) [] .said
-        c =
-            ap (λ (v : Read). v .said) (cut-going 52 true f g (y .whole) x [] (ap (λ (v : Read). v .said) r)) ∙
-            ap (λ (v : Read). readOf 52 true (v .bytes) (v .got) [] .said) r
-
-        go : (t : Bool) → wellOf 52 true (store 52 (ready f) q) (length q) ≡ t → t ≡ true
-        go true k = refl
-        go false k =
-            let a : quiet ≡ refused = sym (ap (λ (v : Read). v .said) r) ∙ ap (λ (v : List ℕ). readOf 52 true f g v .said) (sym (append-nil x)) ∙ c ∙ simp k in
-            let z : _≡_ {A = ℕ} 0 11 = ap (λ (v : Said). v .number) a in
-            absurd (omega arith)
+    well-on = of-well 52 true (store 52 (ready f) q) (length q) (on .0)
 
     pub quiet-good : Good 52 64 s (quieted q)
     unfolding wellFormed

@@ -19,7 +19,7 @@ use Rattle.tinyboot_protocol.specs.Names.{statusNumber, modeNumber, cmdFoundOf,
 use Rattle.tinyboot_protocol.specs.Baud.{baudIndex, baudFoundOf}
 use Rattle.frames.specs.Stored.{Said, saidOf, Read, seen}
 use Rattle.frames.specs.Sent.{Sent, sent}
-use Rattle.tinyboot_protocol.proofs.Apart.{cmd-found-apart, status-apart, status-found-apart, mode-apart, rate-apart, rate-found-apart}
+use Rattle.tinyboot_protocol.proofs.Apart.{cmd-found-apart, status-apart, status-found-apart, modeFrom, mode-back, mode-apart, rate-apart, rate-found-apart}
 use Rattle.flash.specs.declared.storage.Stored.{Stored}
 use Rattle.platform.specs.declared.boot_meta_store.Step.{Step}
 use Rattle.platform.specs.declared.traits.BootState.{BootState}
@@ -80,13 +80,6 @@ refusal-back Refusal.Closed = refl
 
 pub refusal-apart : (a b : Refusal) → refusalNumber a ≡ refusalNumber b → a ≡ b
 refusal-apart = apart refusalNumber refusalFrom refusal-back
-
-abbrev modeFrom : ℕ → RunMode
-modeFrom n = pick (eqb n 0) RunMode.HandOff RunMode.Service
-
-mode-back : (m : RunMode) → modeFrom (modeNumber m) ≡ m
-mode-back RunMode.HandOff = refl
-mode-back RunMode.Service = refl
 
 abbrev answerFrom : Told → Answer
 answerFrom t =

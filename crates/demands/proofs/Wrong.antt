@@ -6,16 +6,9 @@ use mathlib.Core.Logic.{inr}
 use mathlib.Core.List.{List, [], _∷_, _++_}
 use native.Mathlib.Omega.{arith}
 use lib.ListN.{length, replicate}
-use Rattle.laws.specs.Fold.{fold}
-use Rattle.tinyboot_protocol.specs.Crc.{entered, bits, bitsOf, crcFrom}
-use Rattle.frames.specs.Reading.{hunt, overhears, verdictOf, checked, started}
-use Rattle.frames.specs.Stored.{begun, store, wellOf}
-use Rattle.frames.specs.Sent.{sealed, sendOf}
 use Rattle.device.specs.declared.Setup.{Setup}
-use Rattle.device.specs.Refusals.{eraseFits, capacityFits, setUp, runFits, wellFormed, lengthsOf, refusalOf}
 use Rattle.device.specs.Starts.{newState}
-use Rattle.dispatcher.specs.Dispatch.{replyOf, answeredOf, obeyedOf, unaddressedOf, dispatchOf}
-use Rattle.feed.specs.Feed.{afterRead, takenOf, fedOf}
+use Rattle.feed.proofs.Rules.{call-rules}
 use Rattle.demands.specs.Stream.{Story, streamOf}
 use Rattle.demands.specs.Devices.{acknowledging, greedy}
 use Rattle.demands.specs.Demand.{ours, World, Good, Runs, next, stop, Demand3}
@@ -29,7 +22,7 @@ abbrev fresh : World
 fresh = record { state = newState 52 64 false; flash = blank 64; meta = blank 12 }
 
 good : Good 52 64 module-of-64 fresh
-unfolding setUp eraseFits capacityFits wellFormed runFits wellOf
+unfolding call-rules
 good = record { setup = refl; whole = refl; formed = refl; unclosed = refl; flash = refl; meta = refl }
 
 abbrev room : List ℕ
@@ -37,7 +30,7 @@ room = replicate {A = ℕ} 64 0
 
 -- a command that is none, and an AA behind it: the AA is lost
 pub greedy-fails : Demand3 52 64 (greedy ours) → ⊥
-unfolding fedOf takenOf afterRead refusalOf setUp eraseFits capacityFits wellFormed runFits lengthsOf wellOf begun store hunt started verdictOf overhears checked dispatchOf unaddressedOf obeyedOf answeredOf replyOf sendOf sealed streamOf crcFrom bitsOf bits entered fold
+unfolding call-rules streamOf
 greedy-fails d =
     let l : List ℕ = header 6 0 0 ++ (0xAA ∷ []) in
     let t = d .uncut module-of-64 fresh good l _ (stop l [] room refl (omega arith) (inr refl)) in
@@ -46,7 +39,7 @@ greedy-fails d =
 
 -- the same command, and a call with nothing: a frame is answered that never came
 pub acknowledging-fails : Demand3 52 64 (acknowledging ours) → ⊥
-unfolding fedOf takenOf afterRead refusalOf setUp eraseFits capacityFits wellFormed runFits lengthsOf wellOf begun store hunt started verdictOf overhears checked dispatchOf unaddressedOf obeyedOf answeredOf replyOf sendOf sealed streamOf crcFrom bitsOf bits entered fold
+unfolding call-rules streamOf
 acknowledging-fails d =
     let l : List ℕ = header 6 0 0 in
     let t = d .uncut module-of-64 fresh good l _ (next l [] room refl (omega arith) (λ e. omega arith) (stop [] [] room refl (omega arith) (inr refl))) in

@@ -5,23 +5,13 @@ use mathlib.Core.Path.{_≡_, refl}
 use mathlib.Core.List.{List, [], _∷_, _++_}
 use mathlib.Core.Bool.{false}
 use lib.ListN.{take, replicate}
-use Rattle.laws.specs.Fold.{fold}
 use Rattle.laws.specs.Low.{lowBytes}
-use Rattle.tinyboot_protocol.specs.Crc.{entered, bits, bitsOf, crcFrom}
-use Rattle.frames.specs.Reading.{hunt, overhears, verdictOf, checked, started}
-use Rattle.frames.specs.Stored.{begun, store, wellOf}
-use Rattle.frames.specs.Sent.{sealed, sendOf}
-use Rattle.tinyboot_core.specs.Select.{agree, matches, slotOf, copied, selectOf}
-use Rattle.platform.specs.State.{stateRead, appPresent}
-use Rattle.commands.specs.Info.{appVersion, infoOf}
 use Rattle.commands.specs.Reset.{resetRefused, resetOf}
 use Rattle.device.specs.declared.Setup.{Setup}
-use Rattle.device.specs.Refusals.{eraseFits, capacityFits, setUp, runFits, wellFormed, lengthsOf, refusalOf}
 use Rattle.device.specs.Starts.{newState}
 use Rattle.dispatcher.specs.Answers.{Told, mute, reply, restart}
-use Rattle.handler.specs.Handling.{handledOf}
-use Rattle.dispatcher.specs.Dispatch.{replyOf, answeredOf, obeyedOf, unaddressedOf, addressedOf, dispatchOf}
-use Rattle.feed.specs.Feed.{Called, afterRead, takenOf, fedOf}
+use Rattle.feed.specs.Feed.{Called, fedOf}
+use Rattle.feed.proofs.Rules.{call-rules}
 
 record Case : Type 0 where
   idLen : ℕ
@@ -69,5 +59,5 @@ cases =
     []
 
 all-held : held cases
-unfolding fedOf takenOf afterRead refusalOf setUp eraseFits capacityFits wellFormed runFits lengthsOf wellOf begun store hunt started verdictOf overhears checked dispatchOf unaddressedOf addressedOf obeyedOf handledOf answeredOf replyOf sendOf sealed infoOf appVersion resetRefused resetOf stateRead appPresent selectOf matches agree slotOf copied crcFrom bitsOf bits entered fold
+unfolding call-rules resetRefused resetOf
 all-held = ((refl, refl, refl), ((refl, refl, refl), ((refl, refl, refl), ((refl, refl, refl), ((refl, refl, refl), ((refl, refl, refl), ((refl, refl, refl), ((refl, refl, refl), ((refl, refl, refl), ((refl, refl, refl), ((refl, refl, refl), ((refl, refl, refl), ((refl, refl, refl), ((refl, refl, refl), ((refl, refl, refl), ((refl, refl, refl), ((refl, refl, refl), ((refl, refl, refl), ((refl, refl, refl), ((refl, refl, refl), tt))))))))))))))))))))

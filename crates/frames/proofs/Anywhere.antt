@@ -112,7 +112,7 @@ abbrev pub later : ℕ → Read → Read
 later n t = record { bytes = t .bytes; got = t .got; taken = n + t .taken; said = t .said }
 
 module _ (cap : ℕ) (device : Bool) (f : List ℕ) (g : ℕ) (w : Well cap device f g) where
-  of-well : wellOf cap device f g ≡ true
+  pub of-well : wellOf cap device f g ≡ true
   unfolding wellOf
   of-well = simp (a, b, or-true (leb g 0), or-true (leb g 1)) (go (leb g 9) refl)
     where

@@ -111,10 +111,10 @@ status-found-back UnknownStatus = refl
 pub status-found-apart : (a b : StatusFound) → statusFoundOf a ≡ statusFoundOf b → a ≡ b
 status-found-apart = apart statusFoundOf statusFound status-found-back
 
-abbrev modeFrom : ℕ → RunMode
+abbrev pub modeFrom : ℕ → RunMode
 modeFrom n = getD (HandOff ∷ Service ∷ []) n HandOff
 
-mode-back : (m : RunMode) → modeFrom (modeNumber m) ≡ m
+pub mode-back : (m : RunMode) → modeFrom (modeNumber m) ≡ m
 mode-back HandOff = refl
 mode-back Service = refl
 
