@@ -1,0 +1,83 @@
+// The device for programs in C or Rust: each call takes and leaves plain bytes. Ours: the Rust has no such interface.
+mod answer;
+mod feeding;
+mod layout;
+mod starting;
+mod state;
+
+use crate::answer::refuse;
+use crate::layout::setup_from;
+use crate::state::holds_state;
+use crate::state::lay_state;
+use device::start::new_state;
+use tinyboot_protocol::crc::crc16;
+
+// How many bytes a state takes.
+#[no_mangle]
+pub extern "C" fn tinyboot_state_size() -> usize {
+    136
+}
+
+// The register `crc` after these bytes, for hosts that make frames.
+#[no_mangle]
+pub extern "C" fn tinyboot_crc16(crc: u16, bytes: &[u8]) -> u16 {
+    crc16(crc, bytes)
+}
+
+// An open new state, where the buffer is as long as a state.
+#[no_mangle]
+pub extern "C" fn tinyboot_new_state(state: &mut [u8]) -> u8 {
+    if state.len() != 136 {
+        return 11;
+    }
+    let new = new_state(false);
+    lay_state(state, new);
+    0
+}
+
+// Takes the bytes up to the end of the first frame in them, and carries that frame out.
+#[no_mangle]
+pub extern "C" fn tinyboot_feed(
+    setup: &[u8],
+    state: &mut [u8],
+    bytes: &[u8],
+    flash: &mut [u8],
+    meta: &mut [u8],
+    reply: &mut [u8],
+    answer: &mut [u8],
+) -> u8 {
+    if setup.len() != 31 {
+        return refuse(answer, 10);
+    }
+    let s = setup_from(setup);
+    if holds_state(state) {
+        if answer.len() < 16 {
+            return feeding::unanswered(s, state, flash.len(), meta.len());
+        }
+        return feeding::fed(s, state, bytes, flash, meta, reply, answer);
+    }
+    refuse(answer, 11)
+}
+
+// A restart, or the first start: mode 0 asks for the app, every other for Service.
+#[no_mangle]
+pub extern "C" fn tinyboot_start(
+    mode: u8,
+    setup: &[u8],
+    state: &mut [u8],
+    flash: &[u8],
+    meta: &mut [u8],
+    answer: &mut [u8],
+) -> u8 {
+    if setup.len() != 31 {
+        return refuse(answer, 10);
+    }
+    if state.len() != 136 {
+        return refuse(answer, 11);
+    }
+    let s = setup_from(setup);
+    if answer.len() < 16 {
+        return starting::unanswered(s, flash.len(), meta.len());
+    }
+    starting::started(mode, s, state, flash, meta, answer)
+}
