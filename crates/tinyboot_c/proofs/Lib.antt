@@ -1,2 +1,4 @@
 mod Copies
 mod Holding
+mod Laying
+mod Cases

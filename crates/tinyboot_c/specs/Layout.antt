@@ -10,10 +10,21 @@ use Rattle.device.specs.declared.Setup.{Setup}
 use Rattle.device.specs.declared.State.{State}
 use Rattle.dispatcher.specs.Answers.{Told}
 use Rattle.feed.specs.Feed.{stateWith}
+use Rattle.tinyboot_c.specs.declared.state.Numbers.{Numbers}
 
 -- so many bytes from a place on
 abbrev pub part : ℕ → ℕ → List ℕ → List ℕ
 part at n l = take n (drop at l)
+
+-- how many bytes a setup, a state and an answer take
+abbrev pub setupSize : ℕ
+setupSize = 31
+
+abbrev pub stateSize : ℕ
+stateSize = 136
+
+abbrev pub answerSize : ℕ
+answerSize = 16
 
 -- the setup that 31 bytes stand for: erase size, capacity, id length, id, boot version, key
 abbrev pub setupFrom : List ℕ → Setup
@@ -26,10 +37,6 @@ setupFrom l =
       version = lowFirst (part 25 2 l);
       key = lowFirst (part 27 4 l);
     }
-
--- how many bytes a state takes
-abbrev pub stateSize : ℕ
-stateSize = 136
 
 -- a flag's byte
 abbrev pub flagByte : Bool → ℕ
@@ -44,13 +51,21 @@ abbrev pub stateFrom : List ℕ → State
 stateFrom l =
     stateWith (part 0 64 l) (getD l 132 0) (part 64 64 l) (getD l 133 0) (lowFirst (part 128 4 l)) (eqb (getD l 134 0) 1) (eqb (getD l 135 0) 1)
 
+-- the numbers alone, as the code has them
+abbrev pub numbersFrom : List ℕ → Numbers
+numbersFrom l =
+    record { got = getD l 132 0; fill = getD l 133 0; next = lowFirst (part 128 4 l); selected = eqb (getD l 134 0) 1; closed = eqb (getD l 135 0) 1 }
+
 -- a state's numbers, in 8 bytes: of got and fill the low byte, which in a well-formed state is all of them
 abbrev pub numberBytes : ℕ → ℕ → ℕ → Bool → Bool → List ℕ
 numberBytes got fill next selected closed = lowBytes 4 next ++ (got % 256 ∷ fill % 256 ∷ flagByte selected ∷ flagByte closed ∷ [])
 
--- the bytes of a state
+-- the bytes of a state: the frame's, the page's, the numbers'
+abbrev pub partBytes : List ℕ → List ℕ → List ℕ → List ℕ
+partBytes f page numbers = f ++ (page ++ numbers)
+
 abbrev pub stateBytes : State → List ℕ
-stateBytes s = s .frame .bytes ++ (s .page ++ numberBytes (s .frame .got) (s .fill) (s .next) (s .selected) (s .closed))
+stateBytes s = partBytes (s .frame .bytes) (s .page) (numberBytes (s .frame .got) (s .fill) (s .next) (s .selected) (s .closed))
 
 -- the 16 bytes of an answer: its number, its mode, the reply's length, the wait before it, how many bytes were taken
 abbrev pub answerBytes : Told → ℕ → List ℕ

@@ -6,6 +6,12 @@ use tinyboot_protocol::RunMode;
 ghost use mathlib.Core.Path.{_≡_};
 ghost use Prim.Native.Nat.{_≤_};
 ghost use lib.ListN.{length};
+ghost use Rattle.laws.specs.Over.{over};
+ghost use Rattle.tinyboot_protocol.specs.Names.{modeNumber};
+ghost use Rattle.device.specs.Refusals.{refusalNumber};
+ghost use Rattle.dispatcher.specs.Answers.{mute, toldOf};
+ghost use Rattle.tinyboot_c.specs.Layout.{answerBytes};
+ghost use Rattle.tinyboot_c.specs.Calls.{toldBy, answered, startTold};
 
 pub struct Said {
     pub number: u8,
@@ -14,7 +20,9 @@ pub struct Said {
     pub wait: usize,
 }
 
-fn mute(number: u8) -> Said {
+fn unsaid(number: u8) -> Said
+    ensures { λ r. ⌜ (r .number ≡ number) × (r .len ≡ 0) × (r .wait ≡ 0) × (r .mode ≡ 1) ⌝ }
+{
     Said {
         number: number,
         mode: 1,
@@ -23,7 +31,9 @@ fn mute(number: u8) -> Said {
     }
 }
 
-pub(crate) fn refusal_number(refusal: Refusal) -> u8 {
+pub(crate) fn refusal_number(refusal: Refusal) -> u8
+    ensures { λ r. ⌜ r ≡ refusalNumber refusal ⌝ }
+{
     match refusal {
         Refusal::None => 0,
         Refusal::BadSetup => 10,
@@ -35,17 +45,21 @@ pub(crate) fn refusal_number(refusal: Refusal) -> u8 {
     }
 }
 
-fn mode_number(mode: RunMode) -> u8 {
+fn mode_number(mode: RunMode) -> u8
+    ensures { λ r. ⌜ r ≡ modeNumber mode ⌝ }
+{
     match mode {
         RunMode::HandOff => 0,
         RunMode::Service => 1,
     }
 }
 
-pub(crate) fn numbers_of(answer: Answer) -> Said {
+pub(crate) fn numbers_of(answer: Answer) -> Said
+    ensures { λ r. ⌜ (r .number ≡ toldOf answer .number) × (r .len ≡ toldOf answer .len) × (r .wait ≡ toldOf answer .wait) × (r .mode ≡ toldOf answer .mode) ⌝ }
+{
     match answer {
-        Answer::Quiet => mute(0),
-        Answer::Silent => mute(1),
+        Answer::Quiet => unsaid(0),
+        Answer::Silent => unsaid(1),
         Answer::Reply { len, wait } => Said {
             number: 2,
             mode: 1,
@@ -58,17 +72,19 @@ pub(crate) fn numbers_of(answer: Answer) -> Said {
             len: len,
             wait: 0,
         },
-        Answer::BadSetup => mute(10),
-        Answer::BadState => mute(11),
-        Answer::BadFlash => mute(12),
-        Answer::BadRecord => mute(13),
-        Answer::NoRoom => mute(14),
-        Answer::Closed => mute(15),
+        Answer::BadSetup => unsaid(10),
+        Answer::BadState => unsaid(11),
+        Answer::BadFlash => unsaid(12),
+        Answer::BadRecord => unsaid(13),
+        Answer::NoRoom => unsaid(14),
+        Answer::Closed => unsaid(15),
     }
 }
 
 // An answer's 16 bytes.
-fn answer_bytes(said: Said, taken: usize) -> [u8; 16] {
+fn answer_bytes(said: Said, taken: usize) -> [u8; 16]
+    ensures { λ r. ⌜ r ≡ answerBytes (toldBy said) taken ⌝ }
+{
     [
         said.number,
         said.mode,
@@ -92,6 +108,7 @@ fn answer_bytes(said: Said, taken: usize) -> [u8; 16] {
 // The answer laid, and its number.
 pub(crate) fn lay_answer(a: &mut [u8], said: Said, taken: usize) -> u8
     requires { ⌜ 16 ≤ length (now a) ⌝ }
+    ensures { λ r. ⌜ (r ≡ said .number) × (now (a .exit) ≡ over (answerBytes (toldBy said) taken) (now (a .entry))) ⌝ }
 {
     let bytes = answer_bytes(said, taken);
     lay(a, 0, &bytes);
@@ -101,6 +118,8 @@ pub(crate) fn lay_answer(a: &mut [u8], said: Said, taken: usize) -> u8
 // A start's answer has no reply.
 pub(crate) fn lay_start(a: &mut [u8], refusal: Refusal, mode: RunMode) -> u8
     requires { ⌜ 16 ≤ length (now a) ⌝ }
+    ensures { λ r. ⌜ (r ≡ refusalNumber refusal) ×
+        (now (a .exit) ≡ over (answerBytes (startTold (refusalNumber refusal) (modeNumber mode)) 0) (now (a .entry))) ⌝ }
 {
     let said = Said {
         number: refusal_number(refusal),
@@ -112,9 +131,11 @@ pub(crate) fn lay_start(a: &mut [u8], refusal: Refusal, mode: RunMode) -> u8
 }
 
 // A refusal is laid where there is room for an answer.
-pub(crate) fn refuse(a: &mut [u8], number: u8) -> u8 {
+pub(crate) fn refuse(a: &mut [u8], number: u8) -> u8
+    ensures { λ r. ⌜ (r ≡ number) × (now (a .exit) ≡ answered (mute number) 0 (now (a .entry))) ⌝ }
+{
     if a.len() < 16 {
         return number;
     }
-    lay_answer(a, mute(number), 0)
+    lay_answer(a, unsaid(number), 0)
 }

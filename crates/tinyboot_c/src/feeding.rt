@@ -11,10 +11,14 @@ use feed::feed_in;
 ghost use mathlib.Core.Path.{_≡_};
 ghost use Prim.Native.Nat.{_≤_};
 ghost use lib.ListN.{length};
+ghost use Rattle.feed.specs.Feed.{fedOf};
+ghost use Rattle.tinyboot_c.specs.Layout.{stateFrom};
+ghost use Rattle.tinyboot_c.specs.Calls.{roomless, afterFeed, feedCalled};
 
 // With no room for an answer: as if there were none for a reply.
 pub(crate) fn unanswered(setup: Setup, state: &[u8], flash: usize, meta: usize) -> u8
     requires { ⌜ length (now state) ≡ 136 ⌝ }
+    ensures { λ r. ⌜ r ≡ roomless setup (stateFrom (now (state .entry))) flash meta ⌝ }
 {
     let mut f = [0u8; 64];
     fetch(state, 0, &mut f);
@@ -33,6 +37,8 @@ pub(crate) fn fed(
 ) -> u8
     requires { ⌜ length (now state) ≡ 136 ⌝ }
     requires { ⌜ 16 ≤ length (now answer) ⌝ }
+    ensures { λ r. ⌜ afterFeed r (now (state .exit)) (now (flash .exit)) (now (meta .exit)) (now (reply .exit)) (now (answer .exit)) ≡
+        feedCalled (fedOf 52 64 setup (stateFrom (now (state .entry))) (now (bytes .entry)) (now (flash .entry)) (now (meta .entry)) (now (reply .entry))) (now (answer .entry)) ⌝ }
 {
     let mut f = [0u8; 64];
     let mut page = [0u8; 64];

@@ -11,22 +11,32 @@ use crate::state::holds_state;
 use crate::state::lay_state;
 use device::start::new_state;
 use tinyboot_protocol::crc::crc16;
+ghost use mathlib.Core.Path.{_≡_};
+ghost use Rattle.tinyboot_protocol.specs.Crc.{crcFrom};
+ghost use Rattle.tinyboot_c.specs.Layout.{stateSize};
+ghost use Rattle.tinyboot_c.specs.Calls.{afterNew, cNew, afterFeed, cFed, afterStart, cStarted};
 
 // How many bytes a state takes.
 #[no_mangle]
-pub extern "C" fn tinyboot_state_size() -> usize {
+pub extern "C" fn tinyboot_state_size() -> usize
+    ensures { λ r. ⌜ r ≡ stateSize ⌝ }
+{
     136
 }
 
 // The register `crc` after these bytes, for hosts that make frames.
 #[no_mangle]
-pub extern "C" fn tinyboot_crc16(crc: u16, bytes: &[u8]) -> u16 {
+pub extern "C" fn tinyboot_crc16(crc: u16, bytes: &[u8]) -> u16
+    ensures { λ r. ⌜ r ≡ crcFrom crc (now (bytes .entry)) ⌝ }
+{
     crc16(crc, bytes)
 }
 
 // An open new state, where the buffer is as long as a state.
 #[no_mangle]
-pub extern "C" fn tinyboot_new_state(state: &mut [u8]) -> u8 {
+pub extern "C" fn tinyboot_new_state(state: &mut [u8]) -> u8
+    ensures { λ r. ⌜ afterNew r (now (state .exit)) ≡ cNew (now (state .entry)) ⌝ }
+{
     if state.len() != 136 {
         return 11;
     }
@@ -45,7 +55,10 @@ pub extern "C" fn tinyboot_feed(
     meta: &mut [u8],
     reply: &mut [u8],
     answer: &mut [u8],
-) -> u8 {
+) -> u8
+    ensures { λ r. ⌜ afterFeed r (now (state .exit)) (now (flash .exit)) (now (meta .exit)) (now (reply .exit)) (now (answer .exit)) ≡
+        cFed (now (setup .entry)) (now (state .entry)) (now (bytes .entry)) (now (flash .entry)) (now (meta .entry)) (now (reply .entry)) (now (answer .entry)) ⌝ }
+{
     if setup.len() != 31 {
         return refuse(answer, 10);
     }
@@ -68,7 +81,10 @@ pub extern "C" fn tinyboot_start(
     flash: &[u8],
     meta: &mut [u8],
     answer: &mut [u8],
-) -> u8 {
+) -> u8
+    ensures { λ r. ⌜ afterStart r (now (state .exit)) (now (meta .exit)) (now (answer .exit)) ≡
+        cStarted mode (now (setup .entry)) (now (state .entry)) (now (flash .entry)) (now (meta .entry)) (now (answer .entry)) ⌝ }
+{
     if setup.len() != 31 {
         return refuse(answer, 10);
     }

@@ -6,7 +6,7 @@ use device::State;
 ghost use mathlib.Core.Path.{_≡_};
 ghost use Prim.Native.Nat.{_≤_, _+_};
 ghost use lib.ListN.{length};
-ghost use Rattle.tinyboot_c.specs.Layout.{part, holdsState};
+ghost use Rattle.tinyboot_c.specs.Layout.{part, holdsState, numbersFrom, flagByte, numberBytes, partBytes, stateBytes};
 
 // What a state has beside its arrays.
 pub struct Numbers {
@@ -45,6 +45,7 @@ pub(crate) fn fetch(s: &[u8], at: usize, a: &mut [u8; 64])
 
 pub(crate) fn numbers_from(s: &[u8]) -> Numbers
     requires { ⌜ length (now s) ≡ 136 ⌝ }
+    ensures { λ r. ⌜ r ≡ numbersFrom (now (s .entry)) ⌝ }
 {
     Numbers {
         got: wide(s[132]),
@@ -55,12 +56,16 @@ pub(crate) fn numbers_from(s: &[u8]) -> Numbers
     }
 }
 
-fn flag(b: bool) -> u8 {
+fn flag(b: bool) -> u8
+    ensures { λ r. ⌜ r ≡ flagByte b ⌝ }
+{
     if b { 1 } else { 0 }
 }
 
 // What a state has beside its arrays, in 8 bytes.
-fn number_bytes(got: usize, fill: usize, next: u32, selected: bool, closed: bool) -> [u8; 8] {
+fn number_bytes(got: usize, fill: usize, next: u32, selected: bool, closed: bool) -> [u8; 8]
+    ensures { λ r. ⌜ r ≡ numberBytes got fill next selected closed ⌝ }
+{
     [
         (next % 256) as u8,
         (next / 256 % 256) as u8,
@@ -85,6 +90,7 @@ pub(crate) fn lay_parts(
     closed: bool,
 )
     requires { ⌜ length (now s) ≡ 136 ⌝ }
+    ensures { λ r. ⌜ now (s .exit) ≡ partBytes (now (f .entry)) (now (page .entry)) (numberBytes got fill next selected closed) ⌝ }
 {
     let n = number_bytes(got, fill, next, selected, closed);
     lay(s, 0, f);
@@ -94,6 +100,7 @@ pub(crate) fn lay_parts(
 
 pub(crate) fn lay_state(s: &mut [u8], state: State)
     requires { ⌜ length (now s) ≡ 136 ⌝ }
+    ensures { λ r. ⌜ now (s .exit) ≡ stateBytes state ⌝ }
 {
     let frame = state.frame;
     let f = frame.bytes;

@@ -1,3 +1,5 @@
+use Rattle.dispatcher.specs.Answers.{toldOf}
+use Rattle.tinyboot_c.proofs.Cases.{told-by, fed-laid}
 use native.Mathlib.Omega.{arith}
 use borrow.Author.Needs.{needs}
 use Rattle.tinyboot_c.proofs.feeding.fed.Statement.{statement}
@@ -40,7 +42,14 @@ same-length-5 : tie.Need-same-length-5
 same-length-5 c = search needs
 
 returns : tie.Need-returns
-returns c = search needs
+returns c =
+    let a = c .before .before .before .before .before .before .before .before .before .before .before .before .before .before .before .before .before .before .before .before .before .before .before .before .before .before .before .before .before .before .before .before .before .before .before .before .before .args in
+    let p = c .before .before .before .before .before .before .before .before .before .before .before .before .before .before .before .before .before .feed-in .result in
+    let u = c .before .before .before .numbers-of .ensures in
+    let e = c .before .before .lay-answer .ensures in
+    fed-laid p _ _ _ _ _ (a .answer .now) _
+    (rw (c .before .before .before .before .before .before .before .before .before .before .before .before .before .before .before .before .before .before .before .before .before .before .before .numbers-from .ensures, c .before .before .before .before .before .before .before .before .before .before .before .before .before .before .before .before .before .before .before .before .before .before .before .before .before .before .before .before .fetch .ensures, c .before .before .before .before .before .before .before .before .before .before .before .before .before .before .before .before .before .before .before .before .before .before .before .before .before .fetch2 .ensures) at (c .before .before .before .before .before .before .before .before .before .before .before .before .before .before .before .before .before .feed-in .ensures))
+    _ (told-by _ (toldOf (p .answer)) (u .0) (u .1) (u .2) (u .3)) _ (e .0) _ (c .before .before .before .before .before .before .before .lay-parts .ensures) _ (e .1)
 
 pub fed-spec : {M : Type 1} → statement M
 fed-spec =
