@@ -4,9 +4,9 @@ use mathlib.Core.Path.{_≡_, refl, ap, sym, _∙_}
 use mathlib.Core.List.{List, [], _∷_, _++_, append-nil, append-assoc}
 use native.Mathlib.Omega.{arith}
 use lib.ListN.{length, take, drop, length-append, length-drop, drop-of-length-le}
-use lib.Seq.{paste, take-at, take-length, drop-append-add}
+use lib.Seq.{paste, take-at, take-length, take-all, drop-append-add}
 use Rattle.laws.specs.Over.{over}
-use Rattle.tinyboot_c.specs.Layout.{partBytes}
+use Rattle.tinyboot_c.specs.Layout.{part, partBytes}
 
 -- laid from the start on
 pub laid-first : (a x : List ℕ) → paste a 0 x (length x) ≡ over x a
@@ -40,3 +40,13 @@ pub laid-all : (s f p n : List ℕ) → length s ≡ 136 → length f ≡ 64 →
     s₁ ≡ paste s 0 f (length f) → s₂ ≡ paste s₁ 64 p (length p) → s₃ ≡ paste s₂ 128 n (length n) → s₃ ≡ partBytes f p n
 laid-all s f p n ls lf lp ln s₁ s₂ s₃ e₁ e₂ e₃ =
     e₃ ∙ ap (λ (v : List ℕ). paste v 128 n (length n)) (e₂ ∙ ap (λ (v : List ℕ). paste v 64 p (length p)) e₁) ∙ laid-parts s f p n ls lf lp ln
+
+-- 64 bytes that were copied from 64
+pub same-64 : (f x : List ℕ) → length f ≡ 64 → x ≡ part 0 64 f → x ≡ f
+same-64 f x l e = e ∙ take-all 64 f (omega arith)
+
+pub length-64 : (f x : List ℕ) → length f ≡ 64 → x ≡ part 0 64 f → length x ≡ 64
+length-64 f x l e = ap length (same-64 f x l e) ∙ l
+
+pub laid-same : (x f : List ℕ) → x ≡ f → (y p : List ℕ) → y ≡ p → (z n : List ℕ) → z ≡ n → partBytes x y z ≡ partBytes f p n
+laid-same x f ef y p ep z n en = rw (ef, ep, en) refl

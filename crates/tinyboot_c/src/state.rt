@@ -78,7 +78,8 @@ fn number_bytes(got: usize, fill: usize, next: u32, selected: bool, closed: bool
     ]
 }
 
-// A state laid over bytes that are as many as its own.
+// A state laid over bytes that are as many as its own. It goes through locals: of those the compiler knows that they are not a part of the slice, and
+// copies them whole.
 pub(crate) fn lay_parts(
     s: &mut [u8],
     f: &[u8; 64],
@@ -92,9 +93,13 @@ pub(crate) fn lay_parts(
     requires { ⌜ length (now s) ≡ 136 ⌝ }
     ensures { λ r. ⌜ now (s .exit) ≡ partBytes (now (f .entry)) (now (page .entry)) (numberBytes got fill next selected closed) ⌝ }
 {
+    let mut a = [0u8; 64];
+    let mut p = [0u8; 64];
+    fetch(f, 0, &mut a);
+    fetch(page, 0, &mut p);
     let n = number_bytes(got, fill, next, selected, closed);
-    lay(s, 0, f);
-    lay(s, 64, page);
+    lay(s, 0, &a);
+    lay(s, 64, &p);
     lay(s, 128, &n);
 }
 
