@@ -2,3 +2,4 @@ mod Copies
 mod Holding
 mod Laying
 mod Cases
+mod Round
