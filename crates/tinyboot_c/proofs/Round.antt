@@ -3,21 +3,29 @@ use Prim.Native.Nat.{ℕ, zero, suc, _+_, _%_, _^_, _<_, _≤_}
 use mathlib.Core.Path.{_≡_, refl, ap, sym, _∙_}
 use mathlib.Core.Bool.{Bool, true, false, _&&_, _||_}
 use mathlib.Core.List.{List, [], _∷_, _++_}
+use mathlib.Core.Logic.{_⊎_, inl, inr}
 use native.Mathlib.Nat.{mod-eq-of-lt}
 use native.Mathlib.Omega.{arith}
 use lib.ListN.{length, getD, take, drop, length-drop, take-append-drop}
 use lib.Seq.{take-at, drop-at, drop-drop, getD-drop, getD-take, take-all, length-take-le}
 use lib.Dec.{eqb, ltb, leb}
-use borrow.Author.Tests.{ltb-true, leb-true, eqb-true}
+use borrow.Author.Tests.{ltb-true, leb-true}
+use Rattle.laws.specs.Pick.{pick}
+use Rattle.laws.specs.Over.{over}
 use Rattle.laws.specs.Low.{lowFirst, lowBytes}
 use Rattle.laws.proofs.Low.{low-read, low-write}
 use Rattle.laws.proofs.Bools.{and-both, or-either}
+use Rattle.tinyboot_protocol.specs.declared.frame.End.{End}
+use Rattle.tinyboot_protocol.specs.declared.frame.End.the-variants.{Going, Over}
 use Rattle.tinyboot_protocol.specs.Reading.{lenOf, verdictOf}
-use Rattle.tinyboot_protocol.specs.Stored.{wellOf}
+use Rattle.tinyboot_protocol.specs.Stored.{goes, wellOf}
+use Rattle.tinyboot_protocol.proofs.Reading.{going-size}
 use Rattle.device.specs.declared.State.{State}
 use Rattle.device.specs.Refusals.{runFits, wellFormed}
-use Rattle.feed.specs.Feed.{stateWith}
-use Rattle.tinyboot_c.specs.Layout.{part, holdsState, stateFrom, flagByte, numberBytes, partBytes, stateBytes}
+use Rattle.dispatcher.specs.Answers.{mute}
+use Rattle.feed.specs.Feed.{Called, stateWith, refusalFor, refusedBy, takenOf, fedOf}
+use Rattle.tinyboot_c.specs.Layout.{part, setupFrom, holdsState, stateFrom, flagByte, numberBytes, partBytes, stateBytes, answerBytes}
+use Rattle.tinyboot_c.specs.Calls.{afterFeed, feedCalled}
 use Rattle.tinyboot_c.proofs.Copies.{part-four}
 use Rattle.tinyboot_c.proofs.Holding.{holds-size, holds-flags}
 
@@ -131,3 +139,54 @@ module _ (l : List ℕ) (h : holdsState l ≡ true) (byte : (i : ℕ) → i < le
       let two : part 64 64 l ++ drop 128 l ≡ drop 64 l =
       ap (λ (v : List ℕ). part 64 64 l ++ v) (sym (drop-drop 64 64 l)) ∙ take-append-drop 64 (drop 64 l) in
       numbers-written ∙ ap (λ (v : List ℕ). part 0 64 l ++ (part 64 64 l ++ v)) three ∙ ap (λ (v : List ℕ). part 0 64 l ++ v) two ∙ take-append-drop 64 l
+
+-- a well-formed state has counts that fit a byte
+goes-on : (v : End) → goes v ≡ true → v ≡ Going
+goes-on Going e = refl
+goes-on (Over k) e = cc
+
+got-small : (f : List ℕ) (g : ℕ) → wellOf 52 true f g ≡ true → g < 64
+unfolding wellOf
+got-small f g e = last (or-either (leb g 9) (goes (verdictOf 52 true f) && ltb g (12 + lenOf f)) (y .1))
+  where
+    x : (leb g 0 || eqb (getD f 0 0) 0xAA ≡ true) × ((leb g 1 || eqb (getD f 1 0) 0x55) && (leb g 9 || (goes (verdictOf 52 true f) && ltb g (12 + lenOf f))) ≡ true)
+    x = and-both (leb g 0 || eqb (getD f 0 0) 0xAA) ((leb g 1 || eqb (getD f 1 0) 0x55) && (leb g 9 || (goes (verdictOf 52 true f) && ltb g (12 + lenOf f)))) e
+
+    y : (leb g 1 || eqb (getD f 1 0) 0x55 ≡ true) × (leb g 9 || (goes (verdictOf 52 true f) && ltb g (12 + lenOf f)) ≡ true)
+    y = and-both (leb g 1 || eqb (getD f 1 0) 0x55) (leb g 9 || (goes (verdictOf 52 true f) && ltb g (12 + lenOf f))) (x .1)
+
+    last : (leb g 9 ≡ true) ⊎ (goes (verdictOf 52 true f) && ltb g (12 + lenOf f) ≡ true) → g < 64
+    last (inl w) = let k : g ≤ 9 = leb-true g 9 w in omega arith
+    last (inr w) =
+        let z = and-both (goes (verdictOf 52 true f)) (ltb g (12 + lenOf f)) w in
+        let i : g < 12 + lenOf f = ltb-true g (12 + lenOf f) (z .1) in
+        let s : lenOf f ≤ 52 = going-size 52 true f (goes-on (verdictOf 52 true f) (z .0)) in
+        omega (arith, i, s)
+
+fill-small : (capacity fill next : ℕ) → runFits 64 capacity fill next ≡ true → fill < 64
+unfolding runFits
+fill-small capacity fill next e =
+    ltb-true fill 64 (and-both (ltb fill 64) (pick (eqb next 0xFFFFFFFF) (eqb fill 0) (leb next capacity && eqb (next % 64) fill)) e .0)
+
+pub well-small : (capacity : ℕ) (s : State) → wellFormed 52 64 capacity (s .frame .bytes) (s .frame .got) (s .fill) (s .next) ≡ true →
+    (s .frame .got < 256) × (s .fill < 256)
+unfolding wellFormed
+well-small capacity s e =
+    let two = and-both (runFits 64 capacity (s .fill) (s .next)) (wellOf 52 true (s .frame .bytes) (s .frame .got)) e in
+    let g : s .frame .got < 64 = got-small (s .frame .bytes) (s .frame .got) (two .1) in
+    let f : s .fill < 64 = fill-small capacity (s .fill) (s .next) (two .0) in
+    (omega (arith, g), omega (arith, f))
+
+-- a call that the device refuses leaves every buffer but the answer's as it was
+pub refused-kept : (setup state bytes flash meta reply answer : List ℕ) → holdsState state ≡ true → ((i : ℕ) → i < length state → getD state i 0 < 256) →
+    eqb (refusalFor 52 64 (setupFrom setup) (stateFrom state) flash meta reply) 0 ≡ false →
+    feedCalled (fedOf 52 64 (setupFrom setup) (stateFrom state) bytes flash meta reply) answer ≡
+    afterFeed (refusalFor 52 64 (setupFrom setup) (stateFrom state) flash meta reply) state flash meta reply
+    (over (answerBytes (mute (refusalFor 52 64 (setupFrom setup) (stateFrom state) flash meta reply)) 0) answer)
+unfolding fedOf
+refused-kept setup state bytes flash meta reply answer h byte e =
+    let n : ℕ = refusalFor 52 64 (setupFrom setup) (stateFrom state) flash meta reply in
+    let x : Called = takenOf 52 64 (setupFrom setup) (stateFrom state) bytes flash meta reply in
+    let y : Called = refusedBy n (stateFrom state) flash meta reply in
+    ap (λ (t : Bool). feedCalled (pick t x y) answer) e ∙
+    ap (λ (v : List ℕ). afterFeed n v flash meta reply (over (answerBytes (mute n) 0) answer)) (read-written state h byte)
