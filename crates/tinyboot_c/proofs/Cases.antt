@@ -1,0 +1,183 @@
+-- The cases of the calls.
+use Prim.Native.Nat.{ℕ, _<_, _≤_}
+use mathlib.Core.Path.{_≡_, refl, ap, sym, _∙_}
+use mathlib.Core.Bool.{Bool, true, false}
+use mathlib.Core.List.{List}
+use lib.ListN.{length}
+use lib.Dec.{eqb, ltb}
+use borrow.Author.Tests.{eq-eqb, ne-eqb, lt-ltb, le-ltb}
+use Rattle.laws.specs.Pick.{pick}
+use Rattle.laws.specs.Over.{over}
+use Rattle.frames.specs.Stored.{wellOf}
+use Rattle.device.specs.declared.Setup.{Setup}
+use Rattle.device.specs.Refusals.{setUp, runFits, wellFormed, lengthsOf, refusalOf}
+use Rattle.device.specs.Starts.{Left, newState, startRefusal, startedOf}
+use Rattle.dispatcher.specs.Answers.{Told, mute, toldOf}
+use Rattle.feed.specs.Feed.{Called, passedTo, fedOf}
+use Rattle.feed.specs.declared.Passed.{Passed}
+use Rattle.tinyboot_c.specs.declared.answer.Said.{Said}
+use Rattle.tinyboot_c.specs.Layout.{setupFrom, holdsState, stateFrom, numberBytes, partBytes, stateBytes, answerBytes}
+use Rattle.tinyboot_c.specs.Calls
+
+yes : {A : Type 0} (t : Bool) (a b : A) → t ≡ true → a ≡ pick t a b
+yes t a b e = ap (λ (u : Bool). pick u a b) (sym e)
+
+no : {A : Type 0} (t : Bool) (a b : A) → t ≡ false → b ≡ pick t a b
+no t a b e = ap (λ (u : Bool). pick u a b) (sym e)
+
+-- the code's numbers are an answer's, where each is
+pub told-by : (s : Said) (t : Told) → s .number ≡ t .number → s .len ≡ t .len → s .wait ≡ t .wait → s .mode ≡ t .mode → Calls.toldBy s ≡ t
+told-by s t n l w m = rw (n, l, w, m) refl
+
+-- an answer in its buffer
+pub answer-short : (t : Told) (taken : ℕ) (a : List ℕ) → length a < 16 → a ≡ Calls.answered t taken a
+answer-short t taken a h = yes (ltb (length a) 16) a (over (answerBytes t taken) a) (lt-ltb (length a) 16 h)
+
+pub answer-laid : (t : Told) (taken : ℕ) (a : List ℕ) → 16 ≤ length a → over (answerBytes t taken) a ≡ Calls.answered t taken a
+answer-laid t taken a h = no (ltb (length a) 16) a (over (answerBytes t taken) a) (le-ltb (length a) 16 h)
+
+pub new-refused : (s : List ℕ) → (length s ≡ 136 → ⊥) → Calls.afterNew 11 s ≡ Calls.cNew s
+unfolding Calls.cNew
+new-refused s h = no (eqb (length s) 136) (Calls.afterNew 0 (stateBytes (newState 52 64 false))) (Calls.afterNew 11 s) (ne-eqb (length s) 136 h)
+
+pub new-laid : (s : List ℕ) → length s ≡ 136 → Calls.afterNew 0 (stateBytes (newState 52 64 false)) ≡ Calls.cNew s
+unfolding Calls.cNew
+new-laid s h = yes (eqb (length s) 136) (Calls.afterNew 0 (stateBytes (newState 52 64 false))) (Calls.afterNew 11 s) (eq-eqb (length s) 136 h)
+
+-- what the code of a feed leaves
+pub fed-laid : (p : Passed) (f page flash meta reply answer : List ℕ) (x : Called) → passedTo p f page flash meta reply ≡ x →
+    (said : Said) → Calls.toldBy said ≡ toldOf (p .answer) → (r : ℕ) → r ≡ said .number →
+    (s : List ℕ) → s ≡ partBytes f page (numberBytes (p .got) (p .fill) (p .next) (p .selected) (p .closed)) →
+    (a : List ℕ) → a ≡ over (answerBytes (Calls.toldBy said) (p .taken)) answer →
+    Calls.afterFeed r s flash meta reply a ≡ Calls.feedCalled x answer
+fed-laid p f page flash meta reply answer x e said t r k s ks a ka =
+    let n : r ≡ toldOf (p .answer) .number = k ∙ ap (λ (v : Told). v .number) t in
+    let ra : a ≡ over (answerBytes (toldOf (p .answer)) (p .taken)) answer = ka ∙ ap (λ (v : Told). over (answerBytes v (p .taken)) answer) t in
+    ap (λ (v : ℕ). Calls.afterFeed v s flash meta reply a) n ∙
+    ap (λ (v : List ℕ). Calls.afterFeed (toldOf (p .answer) .number) v flash meta reply a) ks ∙
+    ap (λ (v : List ℕ). Calls.afterFeed (toldOf (p .answer) .number) (stateBytes (passedTo p f page flash meta reply .state)) flash meta reply v) ra ∙
+    ap (λ (v : Called). Calls.feedCalled v answer) e
+
+module _ (setup state bytes flash meta reply answer : List ℕ) where
+  abbrev kept : ℕ → Calls.AfterFeed
+  kept number = Calls.feedRefused number state flash meta reply answer
+
+  abbrev called : Calls.AfterFeed
+  called = Calls.feedCalled (fedOf 52 64 (setupFrom setup) (stateFrom state) bytes flash meta reply) answer
+
+  abbrev short : Calls.AfterFeed
+  short = kept (Calls.roomless (setupFrom setup) (stateFrom state) (length flash) (length meta))
+
+  abbrev whole : Calls.AfterFeed
+  whole = Calls.cFed setup state bytes flash meta reply answer
+
+  pub feed-no-setup : (length setup ≡ 31 → ⊥) → kept 10 ≡ whole
+  unfolding Calls.cFed
+  feed-no-setup h =
+      no (eqb (length setup) 31) (pick (holdsState state) (pick (ltb (length answer) 16) short called) (kept 11)) (kept 10) (ne-eqb (length setup) 31 h)
+
+  module _ (h : length setup ≡ 31) where
+    held : (x : Calls.AfterFeed) → x ≡ pick (holdsState state) (pick (ltb (length answer) 16) short called) (kept 11) → x ≡ whole
+    unfolding Calls.cFed
+    held x e =
+        e ∙ yes (eqb (length setup) 31) (pick (holdsState state) (pick (ltb (length answer) 16) short called) (kept 11)) (kept 10) (eq-eqb (length setup) 31 h)
+
+    pub feed-no-state : holdsState state ≡ false → kept 11 ≡ whole
+    feed-no-state k = held (kept 11) (no (holdsState state) (pick (ltb (length answer) 16) short called) (kept 11) k)
+
+    pub feed-short : holdsState state ≡ true → (q : length answer < 16) → (r : ℕ) →
+        r ≡ Calls.roomless (setupFrom setup) (stateFrom state) (length flash) (length meta) →
+        Calls.afterFeed r state flash meta reply answer ≡ whole
+    feed-short k q r e =
+        let number : ℕ = Calls.roomless (setupFrom setup) (stateFrom state) (length flash) (length meta) in
+        ap (λ (v : ℕ). Calls.afterFeed v state flash meta reply answer) e ∙
+        ap (λ (v : List ℕ). Calls.afterFeed number state flash meta reply v) (answer-short (mute number) 0 answer q) ∙
+        held short
+        (yes (ltb (length answer) 16) short called (lt-ltb (length answer) 16 q) ∙ yes (holdsState state) (pick (ltb (length answer) 16) short called) (kept 11) k)
+
+    pub feed-called : holdsState state ≡ true → 16 ≤ length answer → (x : Calls.AfterFeed) → x ≡ called → x ≡ whole
+    feed-called k q x e =
+        e ∙ held called
+        (no (ltb (length answer) 16) short called (le-ltb (length answer) 16 q) ∙ yes (holdsState state) (pick (ltb (length answer) 16) short called) (kept 11) k)
+
+-- what the code of a start leaves: a new state, or the one that stood there
+module _ (x y : Left) (e : x ≡ y) (s answer : List ℕ) (r : ℕ) (k : r ≡ x .answer) (a : List ℕ)
+    (ka : a ≡ over (answerBytes (Calls.startTold (x .answer) (x .mode)) 0) answer) where
+  said : (z : List ℕ) → z ≡ pick (eqb (x .answer) 0) (stateBytes (x .state)) s → Calls.afterStart r z (x .meta) a ≡ Calls.startCalled y s answer
+  said z kz =
+      ap (λ (v : ℕ). Calls.afterStart v z (x .meta) a) k ∙
+      ap (λ (v : List ℕ). Calls.afterStart (x .answer) v (x .meta) a) kz ∙
+      ap (λ (v : List ℕ). Calls.afterStart (x .answer) (pick (eqb (x .answer) 0) (stateBytes (x .state)) s) (x .meta) v) ka ∙
+      ap (λ (v : Left). Calls.startCalled v s answer) e
+
+  pub start-laid : (z : List ℕ) → z ≡ stateBytes (x .state) → eqb (x .answer) 0 ≡ true → Calls.afterStart r z (x .meta) a ≡ Calls.startCalled y s answer
+  start-laid z kz t = said z (kz ∙ yes (eqb (x .answer) 0) (stateBytes (x .state)) s t)
+
+  pub start-kept : eqb (x .answer) 0 ≡ false → Calls.afterStart r s (x .meta) a ≡ Calls.startCalled y s answer
+  start-kept t = said s (no (eqb (x .answer) 0) (stateBytes (x .state)) s t)
+
+pub asked-app : (m : ℕ) → m ≡ 0 → 0 ≡ Calls.asked m
+asked-app m e = yes (eqb m 0) 0 1 (eq-eqb m 0 e)
+
+pub asked-service : (m : ℕ) → (m ≡ 0 → ⊥) → 1 ≡ Calls.asked m
+asked-service m h = no (eqb m 0) 0 1 (ne-eqb m 0 h)
+
+-- with no room a new state is refused as a start is, or for the room
+in-order : (a b c : Bool) → pick a (pick b (pick c 14 13) 12) 10 ≡ Calls.orNoRoom (pick a (pick b (pick c 0 13) 12) 10)
+in-order true true true = refl
+in-order true true false = refl
+in-order true false c = refl
+in-order false b c = refl
+
+well-new : (capacity : ℕ) (f : List ℕ) → wellFormed 52 64 capacity f 0 0 0xFFFFFFFF ≡ true
+unfolding wellFormed runFits wellOf
+well-new capacity f = refl
+
+pub roomless-new : (s : Setup) (f : List ℕ) (flash meta : ℕ) →
+    refusalOf 52 64 s f 0 0 0xFFFFFFFF false flash meta 0 ≡ Calls.orNoRoom (startRefusal 64 s flash meta)
+unfolding refusalOf startRefusal lengthsOf
+roomless-new s f flash meta =
+    let up : Bool = setUp 64 (s .«erase_size») (s .capacity) (s .«id_len») in
+    ap (λ (v : Bool). pick up (pick v (pick (eqb flash (s .capacity)) (pick (eqb meta 12) 14 13) 12) 11) 10) (well-new (s .capacity) f) ∙
+    in-order up (eqb flash (s .capacity)) (eqb meta 12)
+
+module _ (mode : ℕ) (setup state flash meta answer : List ℕ) where
+  abbrev unstarted : ℕ → Calls.AfterStart
+  unstarted number = Calls.startRefused number state meta answer
+
+  abbrev begun : Calls.AfterStart
+  begun = Calls.startCalled (startedOf 52 64 (setupFrom setup) (Calls.asked mode) flash meta) state answer
+
+  abbrev unanswered : Calls.AfterStart
+  unanswered = unstarted (Calls.orNoRoom (startRefusal 64 (setupFrom setup) (length flash) (length meta)))
+
+  abbrev all : Calls.AfterStart
+  all = Calls.cStarted mode setup state flash meta answer
+
+  pub start-no-setup : (length setup ≡ 31 → ⊥) → unstarted 10 ≡ all
+  unfolding Calls.cStarted
+  start-no-setup h =
+      no (eqb (length setup) 31) (pick (eqb (length state) 136) (pick (ltb (length answer) 16) unanswered begun) (unstarted 11)) (unstarted 10) (ne-eqb (length setup) 31 h)
+
+  module _ (h : length setup ≡ 31) where
+    sized : (x : Calls.AfterStart) → x ≡ pick (eqb (length state) 136) (pick (ltb (length answer) 16) unanswered begun) (unstarted 11) → x ≡ all
+    unfolding Calls.cStarted
+    sized x e =
+        e ∙ yes (eqb (length setup) 31) (pick (eqb (length state) 136) (pick (ltb (length answer) 16) unanswered begun) (unstarted 11)) (unstarted 10) (eq-eqb (length setup) 31 h)
+
+    pub start-no-state : (length state ≡ 136 → ⊥) → unstarted 11 ≡ all
+    start-no-state k = sized (unstarted 11) (no (eqb (length state) 136) (pick (ltb (length answer) 16) unanswered begun) (unstarted 11) (ne-eqb (length state) 136 k))
+
+    pub start-short : length state ≡ 136 → (q : length answer < 16) → (r : ℕ) →
+        r ≡ Calls.orNoRoom (startRefusal 64 (setupFrom setup) (length flash) (length meta)) → Calls.afterStart r state meta answer ≡ all
+    start-short k q r e =
+        let number : ℕ = Calls.orNoRoom (startRefusal 64 (setupFrom setup) (length flash) (length meta)) in
+        ap (λ (v : ℕ). Calls.afterStart v state meta answer) e ∙
+        ap (λ (v : List ℕ). Calls.afterStart number state meta v) (answer-short (mute number) 0 answer q) ∙
+        sized unanswered
+        (yes (ltb (length answer) 16) unanswered begun (lt-ltb (length answer) 16 q) ∙ yes (eqb (length state) 136) (pick (ltb (length answer) 16) unanswered begun) (unstarted 11) (eq-eqb (length state) 136 k))
+
+    pub start-called : length state ≡ 136 → 16 ≤ length answer → (x : Calls.AfterStart) → x ≡ begun → x ≡ all
+    start-called k q x e =
+        e ∙ sized begun
+        (no (ltb (length answer) 16) unanswered begun (le-ltb (length answer) 16 q) ∙ yes (eqb (length state) 136) (pick (ltb (length answer) 16) unanswered begun) (unstarted 11) (eq-eqb (length state) 136 k))

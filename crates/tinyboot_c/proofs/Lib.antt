@@ -1,0 +1,5 @@
+mod Copies
+mod Holding
+mod Laying
+mod Cases
+mod Round

@@ -1,0 +1,27 @@
+use mathlib.Core.Path.{_∙_}
+use native.Mathlib.Omega.{arith}
+use borrow.Author.Needs.{needs}
+use Rattle.tinyboot_c.proofs.answer.lay_start.Statement.{statement}
+use Rattle.tinyboot_c.proofs.answer.lay_start.Tie as tie
+
+refusal-number-requires : tie.Need-refusal-number-requires
+refusal-number-requires c κs = search needs
+
+mode-number-requires : tie.Need-mode-number-requires
+mode-number-requires c κs = search needs
+
+lay-answer-requires : tie.Need-lay-answer-requires
+lay-answer-requires c κs = search needs
+
+same-length : tie.Need-same-length
+same-length c = search needs
+
+returns : tie.Need-returns
+returns c =
+    let e = c .before .before .lay-answer .ensures in
+    (e .0 ∙ c .before .before .before .before .before .refusal-number .ensures, rw (← c .before .before .before .before .before .refusal-number .ensures, ← c .before .before .before .before .mode-number .ensures) (e .1))
+
+pub lay-start-spec : {M : Type 1} → statement M
+lay-start-spec =
+    tie.close
+    (tie.spec refusal-number-requires mode-number-requires lay-answer-requires same-length returns)

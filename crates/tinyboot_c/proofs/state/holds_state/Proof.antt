@@ -1,0 +1,28 @@
+use Rattle.tinyboot_c.specs.Layout.{holdsState}
+use borrow.Author.Tests.{eq-eqb, ne-eqb, le-ltb}
+use Rattle.tinyboot_c.proofs.Holding.{holds-last}
+use native.Mathlib.Omega.{arith}
+use borrow.Author.Needs.{needs}
+use Rattle.tinyboot_c.proofs.state.holds_state.Statement.{statement}
+use Rattle.tinyboot_c.proofs.state.holds_state.Tie as tie
+
+returns : tie.Need-returns
+unfolding holdsState
+returns c = simp (ne-eqb _ _ (c .if1 .taken))
+
+shared-slice-read-if2 : tie.Need-shared-slice-read-if2
+shared-slice-read-if2 c = search needs
+
+returns-2 : tie.Need-returns-2
+unfolding holdsState
+returns-2 c = simp (eq-eqb _ _ (c .before .before .if1 .left), le-ltb _ _ (c .if2 .taken))
+
+shared-slice-read-result : tie.Need-shared-slice-read-result
+shared-slice-read-result c = search needs
+
+returns-3 : tie.Need-returns-3
+returns-3 c = holds-last _ (c .before .before .before .if1 .left) (c .before .if2 .left)
+
+pub holds-state-spec : {M : Type 1} → statement M
+holds-state-spec =
+    tie.close (tie.spec returns shared-slice-read-if2 returns-2 shared-slice-read-result returns-3)

@@ -1,0 +1,72 @@
+-- Where a setup, a state and an answer stand in the caller's bytes (include/tinyboot.h, Buffers). Numbers of several bytes stand low byte first.
+use Prim.Native.Nat.{ℕ, _+_, _%_}
+use mathlib.Core.Bool.{Bool, true, false, _&&_}
+use mathlib.Core.List.{List, [], _∷_, _++_}
+use lib.ListN.{length, getD, take, drop}
+use lib.Dec.{eqb, ltb}
+use Rattle.laws.specs.Pick.{pick}
+use Rattle.laws.specs.Low.{lowFirst, lowBytes}
+use Rattle.device.specs.declared.Setup.{Setup}
+use Rattle.device.specs.declared.State.{State}
+use Rattle.dispatcher.specs.Answers.{Told}
+use Rattle.feed.specs.Feed.{stateWith}
+use Rattle.tinyboot_c.specs.declared.state.Numbers.{Numbers}
+
+-- so many bytes from a place on
+abbrev pub part : ℕ → ℕ → List ℕ → List ℕ
+part at n l = take n (drop at l)
+
+-- how many bytes a setup, a state and an answer take
+abbrev pub setupSize : ℕ
+setupSize = 31
+
+abbrev pub stateSize : ℕ
+stateSize = 136
+
+abbrev pub answerSize : ℕ
+answerSize = 16
+
+-- the setup that 31 bytes stand for: erase size, capacity, id length, id, boot version, key
+abbrev pub setupFrom : List ℕ → Setup
+setupFrom l =
+    record {
+      «erase_size» = lowFirst (part 0 4 l);
+      capacity = lowFirst (part 4 4 l);
+      «id_len» = getD l 8 0;
+      id = part 9 16 l;
+      version = lowFirst (part 25 2 l);
+      key = lowFirst (part 27 4 l);
+    }
+
+-- a flag's byte
+abbrev pub flagByte : Bool → ℕ
+flagByte b = pick b 1 0
+
+-- bytes that are a state's: as many, and each flag 0 or 1
+unfoldable pub holdsState : List ℕ → Bool
+holdsState l = eqb (length l) stateSize && (ltb (getD l 134 0) 2 && ltb (getD l 135 0) 2)
+
+-- the state that 136 bytes stand for: the frame's 64 bytes, the page's 64, next, got, fill, selected, closed
+abbrev pub stateFrom : List ℕ → State
+stateFrom l =
+    stateWith (part 0 64 l) (getD l 132 0) (part 64 64 l) (getD l 133 0) (lowFirst (part 128 4 l)) (eqb (getD l 134 0) 1) (eqb (getD l 135 0) 1)
+
+-- the numbers alone, as the code has them
+abbrev pub numbersFrom : List ℕ → Numbers
+numbersFrom l =
+    record { got = getD l 132 0; fill = getD l 133 0; next = lowFirst (part 128 4 l); selected = eqb (getD l 134 0) 1; closed = eqb (getD l 135 0) 1 }
+
+-- a state's numbers, in 8 bytes: of got and fill the low byte, which in a well-formed state is all of them
+abbrev pub numberBytes : ℕ → ℕ → ℕ → Bool → Bool → List ℕ
+numberBytes got fill next selected closed = lowBytes 4 next ++ (got % 256 ∷ fill % 256 ∷ flagByte selected ∷ flagByte closed ∷ [])
+
+-- the bytes of a state: the frame's, the page's, the numbers'
+abbrev pub partBytes : List ℕ → List ℕ → List ℕ → List ℕ
+partBytes f page numbers = f ++ (page ++ numbers)
+
+abbrev pub stateBytes : State → List ℕ
+stateBytes s = partBytes (s .frame .bytes) (s .page) (numberBytes (s .frame .got) (s .fill) (s .next) (s .selected) (s .closed))
+
+-- the 16 bytes of an answer: its number, its mode, the reply's length, the wait before it, how many bytes were taken
+abbrev pub answerBytes : Told → ℕ → List ℕ
+answerBytes t taken = t .number ∷ t .mode ∷ (lowBytes 2 (t .len) ++ (lowBytes 4 (t .wait) ++ lowBytes 8 taken))

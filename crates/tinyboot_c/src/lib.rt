@@ -1,0 +1,99 @@
+// The device for programs in C or Rust: each call takes and leaves plain bytes. Ours: the Rust has no such interface.
+mod answer;
+mod feeding;
+mod layout;
+mod starting;
+mod state;
+
+use crate::answer::refuse;
+use crate::layout::setup_from;
+use crate::state::holds_state;
+use crate::state::lay_state;
+use device::start::new_state;
+use tinyboot_protocol::crc::crc16;
+ghost use mathlib.Core.Path.{_≡_};
+ghost use Rattle.tinyboot_protocol.specs.Crc.{crcFrom};
+ghost use Rattle.tinyboot_c.specs.Layout.{stateSize};
+ghost use Rattle.tinyboot_c.specs.Calls.{afterNew, cNew, afterFeed, cFed, afterStart, cStarted};
+
+// How many bytes a state takes.
+#[no_mangle]
+pub extern "C" fn tinyboot_state_size() -> usize
+    ensures { λ r. ⌜ r ≡ stateSize ⌝ }
+{
+    136
+}
+
+// The register `crc` after these bytes, for hosts that make frames.
+#[no_mangle]
+pub extern "C" fn tinyboot_crc16(crc: u16, bytes: &[u8]) -> u16
+    ensures { λ r. ⌜ r ≡ crcFrom crc (now (bytes .entry)) ⌝ }
+{
+    crc16(crc, bytes)
+}
+
+// An open new state, where the buffer is as long as a state.
+#[no_mangle]
+pub extern "C" fn tinyboot_new_state(state: &mut [u8]) -> u8
+    ensures { λ r. ⌜ afterNew r (now (state .exit)) ≡ cNew (now (state .entry)) ⌝ }
+{
+    if state.len() != 136 {
+        return 11;
+    }
+    let new = new_state(false);
+    lay_state(state, new);
+    0
+}
+
+// Takes the bytes up to the end of the first frame in them, and carries that frame out.
+#[no_mangle]
+pub extern "C" fn tinyboot_feed(
+    setup: &[u8],
+    state: &mut [u8],
+    bytes: &[u8],
+    flash: &mut [u8],
+    meta: &mut [u8],
+    reply: &mut [u8],
+    answer: &mut [u8],
+) -> u8
+    ensures { λ r. ⌜ afterFeed r (now (state .exit)) (now (flash .exit)) (now (meta .exit)) (now (reply .exit)) (now (answer .exit)) ≡
+        cFed (now (setup .entry)) (now (state .entry)) (now (bytes .entry)) (now (flash .entry)) (now (meta .entry)) (now (reply .entry)) (now (answer .entry)) ⌝ }
+{
+    if setup.len() != 31 {
+        return refuse(answer, 10);
+    }
+    let s = setup_from(setup);
+    if holds_state(state) {
+        if answer.len() < 16 {
+            return feeding::unanswered(s, state, flash.len(), meta.len());
+        }
+        return feeding::fed(s, state, bytes, flash, meta, reply, answer);
+    }
+    refuse(answer, 11)
+}
+
+// A restart, or the first start: mode 0 asks for the app, every other for Service.
+#[no_mangle]
+pub extern "C" fn tinyboot_start(
+    mode: u8,
+    setup: &[u8],
+    state: &mut [u8],
+    flash: &[u8],
+    meta: &mut [u8],
+    answer: &mut [u8],
+) -> u8
+    ensures { λ r. ⌜ afterStart r (now (state .exit)) (now (meta .exit)) (now (answer .exit)) ≡
+        cStarted mode (now (setup .entry)) (now (state .entry)) (now (flash .entry)) (now (meta .entry)) (now (answer .entry)) ⌝ }
+{
+    if setup.len() != 31 {
+        return refuse(answer, 10);
+    }
+    if state.len() != 136 {
+        return refuse(answer, 11);
+    }
+    let s = setup_from(setup);
+    if answer.len() < 16 {
+        return starting::unanswered(s, flash.len(), meta.len());
+    }
+    starting::started(mode, s, state, flash, meta, answer)
+}
