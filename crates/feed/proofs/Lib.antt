@@ -1,2 +1,4 @@
 pub mod Feeding
 pub mod Rows
+pub mod Copies
+pub mod Placed
