@@ -41,8 +41,7 @@ unsafe extern "C" {
 }
 
 const STATE: usize = 136;
-const QUIET: u8 = 0;
-const SILENT: u8 = 1;
+/// Below it a call says nothing.
 const REPLY: u8 = 2;
 
 pub fn side(name: &'static str) -> Side {
@@ -83,38 +82,44 @@ fn feed_all(setup: &[u8; 31], stream: &[u8], piece: usize, log: &mut Log) {
     let (cells, record) = (flash::cells(), flash::record());
     // SAFETY: a lent array.
     assert_eq!(unsafe { tinyboot_new_state(state.as_mut_ptr(), STATE) }, 0);
-    let mut before = 0;
-    for piece in stream.chunks(piece) {
-        let mut at = 0;
-        while at < piece.len() {
-            // SAFETY: lent arrays and slices.
-            let number = unsafe {
-                tinyboot_feed(
-                    setup.as_ptr(),
-                    setup.len(),
-                    state.as_mut_ptr(),
-                    state.len(),
-                    piece.as_ptr().add(at),
-                    piece.len() - at,
-                    cells.as_mut_ptr(),
-                    cells.len(),
-                    record.as_mut_ptr(),
-                    record.len(),
-                    room.as_mut_ptr(),
-                    room.len(),
-                    answer.as_mut_ptr(),
-                    answer.len(),
-                )
-            };
-            at += u64::from_le_bytes(answer[8..16].try_into().unwrap()) as usize;
-            match number {
-                QUIET | SILENT => {}
-                REPLY => log.reply(before + at, answer[4], &room[..answer[2] as usize]),
-                _ => panic!("answer {number}"),
-            }
+    let (mut at, mut end) = (0, piece.min(stream.len()));
+    loop {
+        // SAFETY: lent arrays and slices; at is at most end, and end at most the stream's length.
+        let number = unsafe {
+            tinyboot_feed(
+                setup.as_ptr(),
+                setup.len(),
+                state.as_mut_ptr(),
+                state.len(),
+                stream.as_ptr().add(at),
+                end - at,
+                cells.as_mut_ptr(),
+                cells.len(),
+                record.as_mut_ptr(),
+                record.len(),
+                room.as_mut_ptr(),
+                room.len(),
+                answer.as_mut_ptr(),
+                answer.len(),
+            )
+        };
+        at += u64::from_le_bytes(answer[8..16].try_into().unwrap()) as usize;
+        if number >= REPLY {
+            replied(number, at, &answer, &room, log);
         }
-        before += piece.len();
+        if at == end {
+            if end == stream.len() {
+                return;
+            }
+            end = stream.len().min(end + piece);
+        }
     }
+}
+
+#[inline(always)]
+fn replied(number: u8, at: usize, answer: &[u8; 16], room: &[u8; 64], log: &mut Log) {
+    assert_eq!(number, REPLY);
+    log.reply(at, answer[4], &room[..answer[2] as usize]);
 }
 
 fn start() -> (Duration, bool) {

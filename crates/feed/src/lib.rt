@@ -1,5 +1,7 @@
 // Ours: the Rust's dispatcher reads from the wire until a frame has ended; this one is handed the bytes as they come, and answers what is to be done.
 
+pub mod on;
+
 use device::Setup;
 use device::State;
 use device::refusal;
@@ -37,7 +39,7 @@ pub struct Passed {
     pub answer: Answer,
 }
 
-fn after(
+pub(crate) fn after(
     got: usize,
     fill: usize,
     next: u32,
@@ -60,7 +62,7 @@ fn after(
 }
 
 // The answer that is this refusal.
-fn refused(refusal: Refusal) -> Answer
+pub(crate) fn refused(refusal: Refusal) -> Answer
     ensures { λ r. ⌜ toldOf r ≡ mute (refusalNumber refusal) ⌝ }
 {
     match refusal {
@@ -75,7 +77,7 @@ fn refused(refusal: Refusal) -> Answer
 }
 
 // Whether no frame has ended.
-fn is_going(stop: Stop) -> bool
+pub(crate) fn is_going(stop: Stop) -> bool
     ensures { λ r. ⌜ r ≡ eqb (saidOf stop .number) 0 ⌝ }
 {
     match stop {
@@ -90,7 +92,7 @@ fn is_going(stop: Stop) -> bool
 }
 
 // What the reader says of a frame, as the Rust's answers it: Request is another device's reply.
-fn status_of(stop: Stop) -> Status
+pub(crate) fn status_of(stop: Stop) -> Status
     ensures { λ r. ⌜ statusNumber r ≡ saidOf stop .status ⌝ }
 {
     match stop {

@@ -1,0 +1,90 @@
+use Prim.Native.Nat.{ℕ}
+use mathlib.Core.List.{List}
+use mathlib.Core.Path.{refl, ap, _∙_}
+use lib.ListN.{take}
+use Rattle.device.specs.Refusals.{refusalNumber}
+use Rattle.feed.specs.On.{frameIn, pageIn, restIn, onBy}
+use Rattle.feed.proofs.Feeding.{allowed, call-taken, call-refused}
+use Rattle.feed.proofs.Placed.{on-long, on-refused, on-short}
+use native.Mathlib.Omega.{arith}
+use borrow.Author.Needs.{needs}
+use Rattle.feed.proofs.on.feed_on.Statement.{statement}
+use Rattle.feed.proofs.on.feed_on.Tie as tie
+
+after-requires : tie.Need-after-requires
+after-requires c κs = search needs
+
+returns : tie.Need-returns
+returns c =
+    let a = c .before .before .before .before .before .before .before .args in
+    rw (c .after .ensures)
+    (on-short (a .setup) (a .s .now) (a .got) (a .fill) (a .next) (a .selected) (a .closed) (a .bytes .now) (a .flash .now) (a .meta .now) (a .reply .now) (c .before .if1 .taken))
+
+refusal-of-requires : tie.Need-refusal-of-requires
+refusal-of-requires c κs = search needs
+
+is-none-requires : tie.Need-is-none-requires
+is-none-requires c κs = search needs
+
+pass-requires : tie.Need-pass-requires
+pass-requires c κs =
+    let a = c .before .before .before .before .before .before .before .before .before .before .before .before .before .before .args in
+    let o = allowed 52 64 (a .setup) (take 64 (a .s .now)) (a .got) (a .fill) (a .next) (a .closed) _ _ _ _ (c .before .before .before .before .before .before .refusal-of .ensures) _ (c .before .before .before .before .before .is-none .ensures) (c .before .before .before .before .if2 .taken) in
+    (c .before .before .before .before .before .before .before .before .if1 .left, o .well)
+
+same-length : tie.Need-same-length
+same-length c = search needs
+
+same-length-2 : tie.Need-same-length-2
+same-length-2 c = search needs
+
+same-length-3 : tie.Need-same-length-3
+same-length-3 c = search needs
+
+same-length-4 : tie.Need-same-length-4
+same-length-4 c = search needs
+
+returns-2 : tie.Need-returns-2
+returns-2 c =
+    let a = c .before .before .before .before .before .before .before .before .before .before .before .before .before .before .before .before .before .before .before .before .before .before .before .args in
+    let s : List ℕ = a .s .now in
+    c .before .before .before .before .before .before .before .before .pass .ensures ∙
+    ap (onBy (restIn 52 64 s))
+    (call-taken 52 64 (a .setup) (frameIn 52 s) (a .got) (pageIn 52 64 s) (a .fill) (a .next) (a .selected) (a .closed) (a .bytes .now) (a .flash .now) (a .meta .now) (a .reply .now) _ (c .before .before .before .before .before .before .before .before .before .before .before .before .before .before .before .refusal-of .ensures) _ (c .before .before .before .before .before .before .before .before .before .before .before .before .before .before .is-none .ensures) (c .before .before .before .before .before .before .before .before .before .before .before .before .before .if2 .taken) _ refl) ∙
+    on-long (a .setup) s (a .got) (a .fill) (a .next) (a .selected) (a .closed) (a .bytes .now) (a .flash .now) (a .meta .now) (a .reply .now) (c .before .before .before .before .before .before .before .before .before .before .before .before .before .before .before .before .before .if1 .left)
+
+refused-requires : tie.Need-refused-requires
+refused-requires c κs = search needs
+
+after-requires-2 : tie.Need-after-requires-2
+after-requires-2 c κs = search needs
+
+same-length-5 : tie.Need-same-length-5
+same-length-5 c = search needs
+
+returns-3 : tie.Need-returns-3
+returns-3 c =
+    let a = c .before .before .before .before .before .before .before .before .before .before .before .before .args in
+    let s : List ℕ = a .s .now in
+    rw (c .after2 .ensures)
+    (on-refused (a .setup) s (a .got) (a .fill) (a .next) (a .selected) (a .closed) (a .bytes .now) (a .flash .now) (a .meta .now) (a .reply .now) (c .before .before .before .before .before .before .if1 .left) (refusalNumber (c .before .before .before .before .refusal-of .result)) (c .before .refused .result) (c .before .refused .ensures)
+    (call-refused 52 64 (a .setup) (frameIn 52 s) (a .got) (pageIn 52 64 s) (a .fill) (a .next) (a .selected) (a .closed) (a .bytes .now) (a .flash .now) (a .meta .now) (a .reply .now) _ (c .before .before .before .before .refusal-of .ensures) _ (c .before .before .before .is-none .ensures) (c .before .before .if2 .left)))
+
+pub feed-on-spec : {M : Type 1} → statement M
+feed-on-spec =
+    tie.close
+    (tie.spec
+    after-requires
+    returns
+    refusal-of-requires
+    is-none-requires
+    pass-requires
+    same-length
+    same-length-2
+    same-length-3
+    same-length-4
+    returns-2
+    refused-requires
+    after-requires-2
+    same-length-5
+    returns-3)

@@ -1,0 +1,93 @@
+use Prim.Native.Nat.{ℕ}
+use mathlib.Core.List.{List}
+use lib.ListN.{take}
+use Rattle.handler.specs.Handling.{held}
+use Rattle.dispatcher.specs.Dispatch.{Ending, dispatchOf}
+use mathlib.Core.Path.{_≡_, refl, ap, sym, _∙_}
+use mathlib.Core.Bool.{false}
+use Rattle.device.specs.declared.State.{State}
+use Rattle.feed.specs.On.{pageIn, stateIn}
+use Rattle.feed.proofs.Feeding.{call-quiet, call-ended}
+use Rattle.feed.proofs.Placed.{on-quiet, on-ended}
+use native.Mathlib.Omega.{arith}
+use borrow.Author.Needs.{needs}
+use Rattle.feed.proofs.on.pass.Statement.{statement}
+use Rattle.feed.proofs.on.pass.Tie as tie
+
+read-requires : tie.Need-read-requires
+read-requires c κs = search needs
+
+is-going-requires : tie.Need-is-going-requires
+is-going-requires c κs = search needs
+
+after-requires : tie.Need-after-requires
+after-requires c κs = search needs
+
+same-length : tie.Need-same-length
+same-length c = search needs
+
+returns : tie.Need-returns
+returns c =
+    let a = c .before .before .before .before .before .before .before .before .before .before .before .before .args in
+    let p = c .before .before .before .before .before .before .before .before .before .before .before .before .pre in
+    let r = c .before .before .before .before .before .read in
+    rw (c .after .ensures)
+    (on-quiet (a .s .now) (r .last .0) (r .ensures .1) (a .got) (r .result .got) (r .result .taken) (a .fill) (a .next) (a .selected) (r .result .stop) (a .flash .now) (a .meta .now) (a .reply .now) _
+    (call-quiet 52 64 (a .setup) (stateIn 52 64 (a .s .now) (a .got) (a .fill) (a .next) (a .selected) false) (a .bytes .now) (a .flash .now) (a .meta .now) (a .reply .now)
+    _ (r .ensures .0) (p .1) (sym (c .before .before .is-going .ensures) ∙ c .before .if1 .taken)))
+
+status-of-requires : tie.Need-status-of-requires
+status-of-requires c κs = search needs
+
+ended-requires : tie.Need-ended-requires
+ended-requires c κs = search needs
+
+after-requires-2 : tie.Need-after-requires-2
+after-requires-2 c κs = search needs
+
+same-length-2 : tie.Need-same-length-2
+same-length-2 c = search needs
+
+same-length-3 : tie.Need-same-length-3
+same-length-3 c = search needs
+
+same-length-4 : tie.Need-same-length-4
+same-length-4 c = search needs
+
+same-length-5 : tie.Need-same-length-5
+same-length-5 c = search needs
+
+returns-2 : tie.Need-returns-2
+returns-2 c =
+    let a = c .before .before .before .before .before .before .before .before .before .before .before .before .before .before .before .before .before .before .before .before .before .before .before .before .before .before .args in
+    let p = c .before .before .before .before .before .before .before .before .before .before .before .before .before .before .before .before .before .before .before .before .before .before .before .before .before .before .pre in
+    let r = c .before .before .before .before .before .before .before .before .before .before .before .before .before .before .before .before .before .before .before .read in
+    let x = c .before .before .before .before .before .before .before .before .before .ended in
+    let t : List ℕ = r .last .0 in
+    let st : State = stateIn 52 64 (a .s .now) (a .got) (a .fill) (a .next) (a .selected) false in
+    let by : ℕ → List ℕ → Ending = λ v w. dispatchOf 52 64 (a .setup) v (held (take 64 t) w (a .fill) (a .next) (a .flash .now) (a .meta .now)) (a .selected) (a .reply .now) in
+    let z = c .before .before .before .before .before .before .before .before .before .before .before .before .before .before .status-of .ensures in
+    let pg : pageIn 52 64 t ≡ pageIn 52 64 (a .s .now) = ap (take 64) (r .ensures .1) in
+    rw (c .after2 .ensures)
+    (on-ended (a .s .now) t (r .ensures .1) (r .result .taken) (x .result) _ _ _ _ (by _ (pageIn 52 64 t)) (x .ensures) _
+    (call-ended 52 64 (a .setup) st (a .bytes .now) (a .flash .now) (a .meta .now) (a .reply .now)
+    _ (r .ensures .0) (p .1) (sym (c .before .before .before .before .before .before .before .before .before .before .before .before .before .before .before .before .is-going .ensures) ∙ c .before .before .before .before .before .before .before .before .before .before .before .before .before .before .before .if1 .left) _
+    (ap (λ v. by v (pageIn 52 64 t)) z ∙ ap (by _) pg)))
+
+pub pass-spec : {M : Type 1} → statement M
+pass-spec =
+    tie.close
+    (tie.spec
+    read-requires
+    is-going-requires
+    after-requires
+    same-length
+    returns
+    status-of-requires
+    ended-requires
+    after-requires-2
+    same-length-2
+    same-length-3
+    same-length-4
+    same-length-5
+    returns-2)

@@ -1,0 +1,29 @@
+use lib.ListN.{length}
+use lib.Seq.{paste}
+use Prim.Native.Nat.{ℕ}
+use mathlib.Core.List.{List}
+use mathlib.Core.Path.{_≡_, ap, _∙_}
+use Rattle.feed.proofs.Copies.{laid}
+use borrow.Author.Needs.{needs}
+use Rattle.feed.proofs.on.put_back.Statement.{statement}
+use Rattle.feed.proofs.on.put_back.Tie as tie
+
+lay-requires : tie.Need-lay-requires
+lay-requires c κs = search needs
+
+lay-requires-2 : tie.Need-lay-requires-2
+lay-requires-2 c κs = search needs
+
+same-length : tie.Need-same-length
+same-length c = search needs
+
+returns : tie.Need-returns
+returns c =
+    let a = c .before .before .before .before .before .before .before .before .before .before .before .args in
+    let lf : length (a .f .now) ≡ 64 = search (c .before .before .before .before .before .before .before .before .lay-arg2 .given, needs) in
+    let lp : length (a .page .now) ≡ 64 = search (c .before .before .before .lay-arg4 .given, needs) in
+    c .before .before .lay2 .ensures ∙ ap (λ (x : List ℕ). paste x 64 (a .page .now) 64) (c .before .before .before .before .before .before .before .lay .ensures) ∙
+    laid (a .s .now) (a .f .now) (a .page .now) lf lp
+
+pub put-back-spec : {M : Type 1} → statement M
+put-back-spec = tie.close (tie.spec lay-requires lay-requires-2 same-length returns)

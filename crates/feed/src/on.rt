@@ -1,0 +1,224 @@
+// `feed` on a state whose two arrays stand in one lent slice: the frame's 64 bytes first, then the page's 64. A frame is read in place, and only one that has
+// ended is taken out for the dispatcher: so a call on a few bytes copies nothing but these.
+
+use crate::Passed;
+use crate::after;
+use crate::is_going;
+use crate::refused;
+use crate::status_of;
+use device::Setup;
+use device::refusal;
+use device::refusal::Refusal;
+use dispatcher::Answer;
+use dispatcher::dispatch;
+use dispatcher::dispatch::Dispatched;
+use tinyboot_protocol::Status;
+use tinyboot_protocol::frame;
+ghost use mathlib.Core.Path.{_≡_};
+ghost use mathlib.Core.Bool.{true, false};
+ghost use mathlib.Core.List.{_++_};
+ghost use Prim.Native.Nat.{_+_, _≤_};
+ghost use lib.ListN.{length, take, drop};
+ghost use lib.Seq.{paste};
+ghost use Rattle.tinyboot_protocol.specs.Names.{statusNumber};
+ghost use Rattle.tinyboot_protocol.specs.Stored.{wellOf, seen, readOf};
+ghost use Rattle.device.specs.Refusals.{refusalNumber, refusalOf};
+ghost use Rattle.handler.specs.Handling.{held};
+ghost use Rattle.dispatcher.specs.Dispatch.{dispatchOf};
+ghost use Rattle.feed.specs.Feed.{takenOf};
+ghost use Rattle.feed.specs.On.{frameIn, pageIn, restIn, stateIn, endingOn, endBy, calledOn, onBy, fedOn};
+
+// The 64 bytes from a place on.
+fn fetch(s: &[u8], at: usize, a: &mut [u8; 64])
+    requires { ⌜ (at + 64 ≤ length (now s)) × (length (now a) ≡ 64) ⌝ }
+    ensures { λ r. ⌜ now (a .exit) ≡ take 64 (drop at (now (s .entry))) ⌝ }
+{
+    let mut i: usize = 0;
+    while i < 64 {
+        a[i] = s[at + i];
+        i += 1;
+    }
+}
+
+// These bytes from a place on.
+fn lay(s: &mut [u8], at: usize, a: &[u8])
+    requires { ⌜ (at + 64 ≤ length (now s)) × (length (now a) ≡ 64) ⌝ }
+    ensures { λ r. ⌜ now (s .exit) ≡ paste (now (s .entry)) at (now (a .entry)) 64 ⌝ }
+{
+    let mut i: usize = 0;
+    while i < 64 {
+        s[at + i] = a[i];
+        i += 1;
+    }
+}
+
+fn taken_out(s: &[u8], at: usize) -> [u8; 64]
+    requires { ⌜ at + 64 ≤ length (now s) ⌝ }
+    ensures { λ r. ⌜ r ≡ take 64 (drop at (now (s .entry))) ⌝ }
+{
+    let mut a = [0u8; 64];
+    fetch(s, at, &mut a);
+    a
+}
+
+// Both arrays, laid where they were taken out.
+fn put_back(s: &mut [u8], f: &[u8; 64], page: &[u8; 64])
+    requires { ⌜ 128 ≤ length (now s) ⌝ }
+    ensures { λ r. ⌜ now (s .exit) ≡ now (f .entry) ++ (now (page .entry) ++ restIn 52 64 (now (s .entry))) ⌝ }
+{
+    lay(s, 0, f);
+    lay(s, 64, page);
+}
+
+// A frame that has ended, carried out.
+fn ended(
+    setup: Setup,
+    status: Status,
+    s: &mut [u8],
+    fill: usize,
+    next: u32,
+    on: bool,
+    flash: &mut [u8],
+    meta: &mut [u8],
+    reply: &mut [u8],
+) -> Dispatched
+    requires { ⌜ 128 ≤ length (now s) ⌝ }
+    ensures { λ r. ⌜ endingOn r (now (s .exit)) (now (flash .exit)) (now (meta .exit)) (now (reply .exit)) ≡
+        endBy (restIn 52 64 (now (s .entry))) (dispatchOf 52 64 setup (statusNumber status) (held (frameIn 52 (now (s .entry))) (pageIn 52 64 (now (s .entry))) fill next (now (flash .entry)) (now (meta .entry))) on (now (reply .entry))) ⌝ }
+{
+    let mut f = taken_out(s, 0);
+    let mut page = taken_out(s, 64);
+    let d = dispatch::dispatch(
+        setup,
+        status,
+        &mut f,
+        &mut page,
+        fill,
+        next,
+        on,
+        flash,
+        meta,
+        reply,
+    );
+    put_back(s, &f, &page);
+    d
+}
+
+fn read(s: &mut [u8], got: usize, bytes: &[u8]) -> frame::Passed
+    requires { ⌜ 64 ≤ length (now s) ⌝ }
+    ensures { λ r. ⌜ (seen (take 64 (now (s .exit))) (r .got) (r .taken) (r .stop) ≡ readOf 52 true (take 64 (now (s .entry))) got (now (bytes .entry))) ×
+        (drop 64 (now (s .exit)) ≡ drop 64 (now (s .entry))) ⌝ }
+{
+    frame::read_part(&mut s[..64], got, true, bytes)
+}
+
+// A call that is not refused.
+fn pass(
+    setup: Setup,
+    s: &mut [u8],
+    got: usize,
+    fill: usize,
+    next: u32,
+    selected: bool,
+    bytes: &[u8],
+    flash: &mut [u8],
+    meta: &mut [u8],
+    reply: &mut [u8],
+) -> Passed
+    requires { ⌜ (128 ≤ length (now s)) × (wellOf 52 true (take 64 (now s)) got ≡ true) ⌝ }
+    ensures { λ r. ⌜ calledOn r (now (s .exit)) (now (flash .exit)) (now (meta .exit)) (now (reply .exit)) ≡
+        onBy (restIn 52 64 (now (s .entry))) (takenOf 52 64 setup (stateIn 52 64 (now (s .entry)) got fill next selected false) (now (bytes .entry)) (now (flash .entry)) (now (meta .entry)) (now (reply .entry))) ⌝ }
+{
+    let p = read(s, got, bytes);
+    let stop = p.stop;
+    if is_going(stop) {
+        return after(p.got, fill, next, selected, false, p.taken, Answer::Quiet);
+    }
+    let d = ended(
+        setup,
+        status_of(stop),
+        s,
+        fill,
+        next,
+        selected,
+        flash,
+        meta,
+        reply,
+    );
+    let answer = d.answer;
+    after(0, d.fill, d.next, d.selected, d.closed, p.taken, answer)
+}
+
+// The refusal that a call gives, if any.
+fn refusal_of(
+    setup: Setup,
+    s: &[u8],
+    got: usize,
+    fill: usize,
+    next: u32,
+    closed: bool,
+    flash: usize,
+    meta: usize,
+    room: usize,
+) -> Refusal
+    requires { ⌜ 64 ≤ length (now s) ⌝ }
+    ensures { λ r. ⌜ refusalNumber r ≡ refusalOf 52 64 setup (take 64 (now (s .entry))) got fill next closed flash meta room ⌝ }
+{
+    if refusal::set_up(setup) {
+        if refusal::run_fits(setup.capacity, fill, next) {
+            if frame::begins(&s[..64], got, true) {
+                return refusal::of_lengths(setup.capacity, flash, meta, room, closed);
+            }
+        }
+        return Refusal::BadState;
+    }
+    Refusal::BadSetup
+}
+
+// The call: `feed_in` with both arrays in one slice.
+pub fn feed_on(
+    setup: Setup,
+    got: usize,
+    fill: usize,
+    next: u32,
+    selected: bool,
+    closed: bool,
+    s: &mut [u8],
+    bytes: &[u8],
+    flash: &mut [u8],
+    meta: &mut [u8],
+    reply: &mut [u8],
+) -> Passed
+    ensures { λ r. ⌜ calledOn r (now (s .exit)) (now (flash .exit)) (now (meta .exit)) (now (reply .exit)) ≡
+        fedOn 52 64 setup (now (s .entry)) got fill next selected closed (now (bytes .entry)) (now (flash .entry)) (now (meta .entry)) (now (reply .entry)) ⌝ }
+{
+    if s.len() < 128 {
+        return after(got, fill, next, selected, closed, 0, Answer::BadState);
+    }
+    let refusal = refusal_of(
+        setup,
+        s,
+        got,
+        fill,
+        next,
+        closed,
+        flash.len(),
+        meta.len(),
+        reply.len(),
+    );
+    if refusal.is_none() {
+        return pass(
+            setup,
+            s,
+            got,
+            fill,
+            next,
+            selected,
+            bytes,
+            flash,
+            meta,
+            reply,
+        );
+    }
+    after(got, fill, next, selected, closed, 0, refused(refusal))
+}
