@@ -1,7 +1,5 @@
 // Ours: the Rust's dispatcher reads from the wire until a frame has ended; this one is handed the bytes as they come, and answers what is to be done.
 
-pub mod on;
-
 use device::Setup;
 use device::State;
 use device::refusal;
@@ -39,7 +37,7 @@ pub struct Passed {
     pub answer: Answer,
 }
 
-pub(crate) fn after(
+pub fn after(
     got: usize,
     fill: usize,
     next: u32,
@@ -62,7 +60,7 @@ pub(crate) fn after(
 }
 
 // The answer that is this refusal.
-pub(crate) fn refused(refusal: Refusal) -> Answer
+pub fn refused(refusal: Refusal) -> Answer
     ensures { λ r. ⌜ toldOf r ≡ mute (refusalNumber refusal) ⌝ }
 {
     match refusal {
@@ -77,7 +75,7 @@ pub(crate) fn refused(refusal: Refusal) -> Answer
 }
 
 // Whether no frame has ended.
-pub(crate) fn is_going(stop: Stop) -> bool
+pub fn is_going(stop: Stop) -> bool
     ensures { λ r. ⌜ r ≡ eqb (saidOf stop .number) 0 ⌝ }
 {
     match stop {
@@ -92,7 +90,7 @@ pub(crate) fn is_going(stop: Stop) -> bool
 }
 
 // What the reader says of a frame, as the Rust's answers it: Request is another device's reply.
-pub(crate) fn status_of(stop: Stop) -> Status
+pub fn status_of(stop: Stop) -> Status
     ensures { λ r. ⌜ statusNumber r ≡ saidOf stop .status ⌝ }
 {
     match stop {

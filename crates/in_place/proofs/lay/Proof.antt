@@ -5,8 +5,8 @@ use mathlib.Core.Path.{_≡_, refl, _∙_}
 use Prim.Native.Nat.{ℕ, _-_, _≤_}
 use native.Mathlib.Omega.{arith}
 use borrow.Author.Needs.{needs}
-use Rattle.feed.proofs.on.lay.Statement.{statement}
-use Rattle.feed.proofs.on.lay.Tie as tie
+use Rattle.in_place.proofs.lay.Statement.{statement}
+use Rattle.in_place.proofs.lay.Tie as tie
 
 abbrev Inv-loop : tie.InvT-loop
 Inv-loop s₀ at a i₀ s i = (i ≤ 64) × (length s ≡ length s₀) × (s ≡ paste s₀ at a i)

@@ -1,19 +1,19 @@
 // `feed` on a state whose two arrays stand in one lent slice: the frame's 64 bytes first, then the page's 64. A frame is read in place, and only one that has
 // ended is taken out for the dispatcher: so a call on a few bytes copies nothing but these.
 
-use crate::Passed;
-use crate::after;
-use crate::is_going;
-use crate::refused;
-use crate::status_of;
 use device::Setup;
 use device::refusal;
 use device::refusal::Refusal;
 use dispatcher::Answer;
 use dispatcher::dispatch;
 use dispatcher::dispatch::Dispatched;
+use feed::Passed;
+use feed::after;
+use feed::is_going;
+use feed::refused;
+use feed::status_of;
+use frames::frame;
 use tinyboot_protocol::Status;
-use tinyboot_protocol::frame;
 ghost use mathlib.Core.Path.{_≡_};
 ghost use mathlib.Core.Bool.{true, false};
 ghost use mathlib.Core.List.{_++_};
@@ -21,12 +21,12 @@ ghost use Prim.Native.Nat.{_+_, _≤_};
 ghost use lib.ListN.{length, take, drop};
 ghost use lib.Seq.{paste};
 ghost use Rattle.tinyboot_protocol.specs.Names.{statusNumber};
-ghost use Rattle.tinyboot_protocol.specs.Stored.{wellOf, seen, readOf};
+ghost use Rattle.frames.specs.Stored.{wellOf, seen, readOf};
 ghost use Rattle.device.specs.Refusals.{refusalNumber, refusalOf};
 ghost use Rattle.handler.specs.Handling.{held};
 ghost use Rattle.dispatcher.specs.Dispatch.{dispatchOf};
 ghost use Rattle.feed.specs.Feed.{takenOf};
-ghost use Rattle.feed.specs.On.{frameIn, pageIn, restIn, stateIn, endingOn, endBy, calledOn, onBy, fedOn};
+ghost use Rattle.in_place.specs.On.{frameIn, pageIn, restIn, stateIn, endingOn, endBy, calledOn, onBy, fedOn};
 
 // The 64 bytes from a place on.
 fn fetch(s: &[u8], at: usize, a: &mut [u8; 64])

@@ -6,13 +6,13 @@ use Rattle.dispatcher.specs.Dispatch.{Ending, dispatchOf}
 use mathlib.Core.Path.{_≡_, refl, ap, sym, _∙_}
 use mathlib.Core.Bool.{false}
 use Rattle.device.specs.declared.State.{State}
-use Rattle.feed.specs.On.{pageIn, stateIn}
+use Rattle.in_place.specs.On.{pageIn, stateIn}
 use Rattle.feed.proofs.Feeding.{call-quiet, call-ended}
-use Rattle.feed.proofs.Placed.{on-quiet, on-ended}
+use Rattle.in_place.proofs.Placed.{on-quiet, on-ended}
 use native.Mathlib.Omega.{arith}
 use borrow.Author.Needs.{needs}
-use Rattle.feed.proofs.on.pass.Statement.{statement}
-use Rattle.feed.proofs.on.pass.Tie as tie
+use Rattle.in_place.proofs.pass.Statement.{statement}
+use Rattle.in_place.proofs.pass.Tie as tie
 
 read-requires : tie.Need-read-requires
 read-requires c κs = search needs

@@ -3,10 +3,10 @@ use lib.Seq.{paste}
 use Prim.Native.Nat.{ℕ}
 use mathlib.Core.List.{List}
 use mathlib.Core.Path.{_≡_, ap, _∙_}
-use Rattle.feed.proofs.Copies.{laid}
+use Rattle.in_place.proofs.Copies.{laid}
 use borrow.Author.Needs.{needs}
-use Rattle.feed.proofs.on.put_back.Statement.{statement}
-use Rattle.feed.proofs.on.put_back.Tie as tie
+use Rattle.in_place.proofs.put_back.Statement.{statement}
+use Rattle.in_place.proofs.put_back.Tie as tie
 
 lay-requires : tie.Need-lay-requires
 lay-requires c κs = search needs

@@ -1,9 +1,9 @@
 use mathlib.Core.Path.{_≡_, ap}
-use Rattle.feed.specs.On.{restIn, endBy}
+use Rattle.in_place.specs.On.{restIn, endBy}
 use native.Mathlib.Omega.{arith}
 use borrow.Author.Needs.{needs}
-use Rattle.feed.proofs.on.ended.Statement.{statement}
-use Rattle.feed.proofs.on.ended.Tie as tie
+use Rattle.in_place.proofs.ended.Statement.{statement}
+use Rattle.in_place.proofs.ended.Tie as tie
 
 taken-out-requires : tie.Need-taken-out-requires
 taken-out-requires c κs = search needs

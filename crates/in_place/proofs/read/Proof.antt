@@ -3,13 +3,13 @@ use mathlib.Core.List.{List}
 use mathlib.Core.Bool.{true}
 use lib.ListN.{length, take, drop}
 use lib.Seq.{take-at, drop-at, length-take-le}
-use Rattle.tinyboot_protocol.specs.Stored.{seen}
+use Rattle.frames.specs.Stored.{seen}
 use mathlib.Core.Path.{_≡_, ap, sym, _∙_}
 use native.Mathlib.Omega.{arith}
 use borrow.Author.Needs.{needs}
-use Rattle.tinyboot_protocol.proofs.Parts.{part-of-whole}
-use Rattle.feed.proofs.on.read.Statement.{statement}
-use Rattle.feed.proofs.on.read.Tie as tie
+use Rattle.frames.proofs.Parts.{part-of-whole}
+use Rattle.in_place.proofs.read.Statement.{statement}
+use Rattle.in_place.proofs.read.Tie as tie
 
 slice-relend-prefix-read-part : tie.Need-slice-relend-prefix-read-part
 slice-relend-prefix-read-part c = search needs

@@ -5,15 +5,15 @@ use mathlib.Core.Bool.{Bool, false}
 use borrow.Author.Tests.{le-leb, lt-leb}
 use mathlib.Core.List.{List, _++_}
 use lib.ListN.{length, take, drop, take-append-drop}
-use Rattle.tinyboot_protocol.specs.declared.frame.Stop.{Stop}
-use Rattle.tinyboot_protocol.specs.Stored.{seen}
+use Rattle.frames.specs.declared.frame.Stop.{Stop}
+use Rattle.frames.specs.Stored.{seen}
 use Rattle.dispatcher.specs.declared.Answer.{Answer}
 use Rattle.dispatcher.specs.declared.dispatch.Dispatched.{Dispatched}
 use Rattle.dispatcher.specs.Dispatch.{Ending}
 use Rattle.device.specs.declared.Setup.{Setup}
 use Rattle.dispatcher.specs.Answers.{Told, mute, toldOf}
 use Rattle.feed.specs.Feed.{Called, passedWith, quietBy, endedBy, refusedBy, fedOf}
-use Rattle.feed.specs.On.{pageIn, restIn, stateIn, EndingOn, endingOn, endBy, CalledOn, calledOn, onBy, fedOn}
+use Rattle.in_place.specs.On.{pageIn, restIn, stateIn, EndingOn, endingOn, endBy, CalledOn, calledOn, onBy, fedOn}
 
 -- s is the slice before the reading, t after it: only its frame is another
 module _ (s t : List ℕ) (d : drop 64 t ≡ drop 64 s) where

@@ -3,13 +3,13 @@ use mathlib.Core.List.{List}
 use mathlib.Core.Path.{refl, ap, _∙_}
 use lib.ListN.{take}
 use Rattle.device.specs.Refusals.{refusalNumber}
-use Rattle.feed.specs.On.{frameIn, pageIn, restIn, onBy}
+use Rattle.in_place.specs.On.{frameIn, pageIn, restIn, onBy}
 use Rattle.feed.proofs.Feeding.{allowed, call-taken, call-refused}
-use Rattle.feed.proofs.Placed.{on-long, on-refused, on-short}
+use Rattle.in_place.proofs.Placed.{on-long, on-refused, on-short}
 use native.Mathlib.Omega.{arith}
 use borrow.Author.Needs.{needs}
-use Rattle.feed.proofs.on.feed_on.Statement.{statement}
-use Rattle.feed.proofs.on.feed_on.Tie as tie
+use Rattle.in_place.proofs.feed_on.Statement.{statement}
+use Rattle.in_place.proofs.feed_on.Tie as tie
 
 after-requires : tie.Need-after-requires
 after-requires c κs = search needs

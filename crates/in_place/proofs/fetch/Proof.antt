@@ -1,12 +1,12 @@
-use Rattle.feed.proofs.Copies.{fetched, fetched-all}
+use Rattle.in_place.proofs.Copies.{fetched, fetched-all}
 use lib.Seq.{paste}
 use lib.ListN.{length, drop}
 use mathlib.Core.Path.{_≡_, refl}
 use Prim.Native.Nat.{ℕ, _-_, _≤_}
 use native.Mathlib.Omega.{arith}
 use borrow.Author.Needs.{needs}
-use Rattle.feed.proofs.on.fetch.Statement.{statement}
-use Rattle.feed.proofs.on.fetch.Tie as tie
+use Rattle.in_place.proofs.fetch.Statement.{statement}
+use Rattle.in_place.proofs.fetch.Tie as tie
 
 abbrev Inv-loop : tie.InvT-loop
 Inv-loop s at a₀ i₀ a i = (i ≤ 64) × (a ≡ paste a₀ 0 (drop at s) i)

@@ -4,14 +4,14 @@ use mathlib.Core.List.{List}
 use lib.ListN.{length, take}
 use lib.Dec.{eqb}
 use lib.Seq.{length-take-le}
-use Rattle.tinyboot_protocol.specs.Stored.{wellOf}
+use Rattle.frames.specs.Stored.{wellOf}
 use mathlib.Core.Path.{_≡_, sym, _∙_}
 use native.Mathlib.Omega.{arith}
 use borrow.Author.Needs.{needs}
 use borrow.Author.Tests.{eq-eqb}
 use Rattle.device.specs.Refusals.{refusalOf, wellFormed}
-use Rattle.feed.proofs.on.refusal_of.Statement.{statement}
-use Rattle.feed.proofs.on.refusal_of.Tie as tie
+use Rattle.in_place.proofs.refusal_of.Statement.{statement}
+use Rattle.in_place.proofs.refusal_of.Tie as tie
 
 -- the test of the slice is the test of the frame, since the slice is long enough
 tested : (s : List ℕ) (g : ℕ) → 64 ≤ length s → (b : Bool) → b ≡ (eqb (length (take 64 s)) 64 && wellOf 52 true (take 64 s) g) → wellOf 52 true (take 64 s) g ≡ b
