@@ -53,6 +53,7 @@ use Rattle.dispatcher.specs.Dispatch.{Ending, endedTo}
 use Rattle.feed.specs.declared.Fed.{Fed}
 use Rattle.feed.specs.declared.Passed.{Passed}
 use Rattle.feed.specs.Feed.{Called, fedTo, passedTo}
+use Rattle.in_place.specs.On.{CalledOn, calledOn}
 
 -- the two laws
 pub plain : {A : Type 0} (s a b : A) → a ≡ s → b ≡ s → a ≡ b
@@ -167,7 +168,7 @@ cmd-write s r r' f f' p p' i j =
       ap (λ (v : Wrote). v .page) e,
     )
 
--- refusals and starts
+-- refusals and starts: `refuses`, `of_lengths`; `start`
 pub refuses : (s : ℕ) (r r' : Refusal) → refusalNumber r ≡ s → refusalNumber r' ≡ s → r ≡ r'
 refuses = determined refusalNumber refusal-apart
 
@@ -245,6 +246,32 @@ feed-in s r r' f f' p p' l l' m m' o o' i j =
       ap (λ (v : Called). v .room) e,
     )
 
+-- the same with both arrays in one slice
+pub feed-on : (s : CalledOn) (r r' : Passed) (f f' l l' m m' o o' : List ℕ) → calledOn r f l m o ≡ s → calledOn r' f' l' m' o' ≡ s →
+    (r .answer ≡ r' .answer) × (r .taken ≡ r' .taken) × (r .got ≡ r' .got) × (r .fill ≡ r' .fill) × (r .next ≡ r' .next) × (r .selected ≡ r' .selected) ×
+    (r .closed ≡ r' .closed) × (f ≡ f') × (l ≡ l') × (m ≡ m') × (o ≡ o')
+feed-on s r r' f f' l l' m m' o o' i j =
+    let e = plain s _ _ i j in (
+      answer-apart _ _ (ap (λ (v : CalledOn). v .told) e),
+      ap (λ (v : CalledOn). v .taken) e,
+      ap (λ (v : CalledOn). v .got) e,
+      ap (λ (v : CalledOn). v .fill) e,
+      ap (λ (v : CalledOn). v .next) e,
+      ap (λ (v : CalledOn). v .selected) e,
+      ap (λ (v : CalledOn). v .closed) e,
+      ap (λ (v : CalledOn). v .bytes) e,
+      ap (λ (v : CalledOn). v .flash) e,
+      ap (λ (v : CalledOn). v .meta) e,
+      ap (λ (v : CalledOn). v .room) e,
+    )
+
+-- an answer and a status by their numbers: `refused`, `status_of`
+pub answered : (s : Told) (r r' : Answer) → toldOf r ≡ s → toldOf r' ≡ s → r ≡ r'
+answered = determined toldOf answer-apart
+
+pub status : (s : ℕ) (r r' : Status) → statusNumber r ≡ s → statusNumber r' ≡ s → r ≡ r'
+status = determined statusNumber status-apart
+
 -- Select and the decision of a start
 pub select : (s : Choice) (r r' : Selected) (f f' : List ℕ) → choiceOf r f ≡ s → choiceOf r' f' ≡ s → (r ≡ r') × (f ≡ f')
 select s r r' f f' p q = one-result r r' f f' (plain s _ _ p q)
@@ -268,7 +295,7 @@ stepped s r r' m m' p q =
 pub boot-state : (s : ℕ) (r r' : BootState) → stateByte r ≡ s → stateByte r' ≡ s → r ≡ r'
 boot-state = determined stateByte state-apart
 
--- the wire: `read_in`, and by value `read` and `read_request`; `send`; the lookups
+-- the wire: `read_part`, `read_in`, and by value `read` and `read_request`; `send`; the lookups
 pub read-in : (s : Read) (f f' : List ℕ) (g g' n n' : ℕ) (r r' : Stop) → seen f g n r ≡ s → seen f' g' n' r' ≡ s → (f ≡ f') × (g ≡ g') × (n ≡ n') × (r ≡ r')
 read-in s f f' g g' n n' r r' p q =
     let e = plain s _ _ p q in
