@@ -2,4 +2,5 @@ mod Copies
 mod Holding
 mod Laying
 mod Cases
-mod Round
+pub mod Round
+mod Placing

@@ -1,13 +1,13 @@
-// A feed of buffers that hold a setup and a state.
+// A feed of buffers that hold a setup and a state. The state's arrays stay where they stand.
 use crate::answer::lay_answer;
 use crate::answer::numbers_of;
 use crate::answer::refusal_number;
 use crate::state::fetch;
-use crate::state::lay_parts;
+use crate::state::lay_numbers;
 use crate::state::numbers_from;
 use device::Setup;
 use device::refusal::refuses;
-use feed::feed_in;
+use in_place::feed_on;
 ghost use mathlib.Core.Path.{_≡_};
 ghost use Prim.Native.Nat.{_≤_};
 ghost use lib.ListN.{length};
@@ -40,35 +40,21 @@ pub(crate) fn fed(
     ensures { λ r. ⌜ afterFeed r (now (state .exit)) (now (flash .exit)) (now (meta .exit)) (now (reply .exit)) (now (answer .exit)) ≡
         feedCalled (fedOf 52 64 setup (stateFrom (now (state .entry))) (now (bytes .entry)) (now (flash .entry)) (now (meta .entry)) (now (reply .entry))) (now (answer .entry)) ⌝ }
 {
-    let mut f = [0u8; 64];
-    let mut page = [0u8; 64];
-    fetch(state, 0, &mut f);
-    fetch(state, 64, &mut page);
     let n = numbers_from(state);
-    let p = feed_in(
+    let p = feed_on(
         setup,
         n.got,
         n.fill,
         n.next,
         n.selected,
         n.closed,
-        &mut f,
-        &mut page,
+        state,
         bytes,
         flash,
         meta,
         reply,
     );
-    lay_parts(
-        state,
-        &f,
-        &page,
-        p.got,
-        p.fill,
-        p.next,
-        p.selected,
-        p.closed,
-    );
+    lay_numbers(state, p.got, p.fill, p.next, p.selected, p.closed);
     let told = p.answer;
     lay_answer(answer, numbers_of(told), p.taken)
 }

@@ -6,6 +6,7 @@ use device::State;
 ghost use mathlib.Core.Path.{_≡_};
 ghost use Prim.Native.Nat.{_≤_, _+_};
 ghost use lib.ListN.{length};
+ghost use lib.Seq.{paste};
 ghost use Rattle.tinyboot_c.specs.Layout.{part, holdsState, numbersFrom, flagByte, numberBytes, partBytes, stateBytes};
 
 // What a state has beside its arrays.
@@ -76,6 +77,22 @@ fn number_bytes(got: usize, fill: usize, next: u32, selected: bool, closed: bool
         flag(selected),
         flag(closed),
     ]
+}
+
+// What a state has beside its arrays, laid where it stands.
+pub(crate) fn lay_numbers(
+    s: &mut [u8],
+    got: usize,
+    fill: usize,
+    next: u32,
+    selected: bool,
+    closed: bool,
+)
+    requires { ⌜ length (now s) ≡ 136 ⌝ }
+    ensures { λ r. ⌜ now (s .exit) ≡ paste (now (s .entry)) 128 (numberBytes got fill next selected closed) 8 ⌝ }
+{
+    let n = number_bytes(got, fill, next, selected, closed);
+    lay(s, 128, &n);
 }
 
 // A state laid over bytes that are as many as its own. It goes through locals: of those the compiler knows that they are not a part of the slice, and
