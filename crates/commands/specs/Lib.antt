@@ -1,5 +1,4 @@
 pub mod Fields
 pub mod Erase
 pub mod Verify
-pub mod Info
 pub mod Reset

@@ -19,12 +19,12 @@ use Rattle.commands.specs.Fields.{Unsupported}
 use Rattle.commands.specs.Erase.{eraseOf}
 use Rattle.writes.specs.Write.{cmdWriteOf}
 use Rattle.commands.specs.Verify.{Verified, verifyOf}
-use Rattle.commands.specs.Info.{infoOf, infoLaid}
+use Rattle.info.specs.Info.{infoOf, infoLaid}
 use Rattle.commands.specs.Reset.{resetOf}
 use Rattle.commands.proofs.Erasing.{erase-flash-length, erase-meta-length}
 use Rattle.writes.proofs.Runs.{Pending, write-lengths, write-pending}
 use Rattle.commands.proofs.Verifying.{verify-length}
-use Rattle.commands.proofs.Informing.{info-length, laid-length}
+use Rattle.info.proofs.Informing.{info-length, laid-length}
 use Rattle.commands.proofs.Resetting.{reset-length}
 use Rattle.device.specs.declared.Setup.{Setup}
 use Rattle.handler.specs.Handling.{Held, held, Obeyed, bare, loaded, informed, erased, wrote, crcLaid, verified, resets, handledOf}

@@ -6,7 +6,7 @@ use Rattle.frames.specs.Stored.{begun, store, wellOf}
 use Rattle.frames.specs.Sent.{sealed, sendOf}
 use Rattle.tinyboot_core.specs.Select.{agree, matches, slotOf, copied, selectOf}
 use Rattle.platform.specs.State.{stateRead, appPresent}
-use Rattle.commands.specs.Info.{appVersion, infoOf}
+use Rattle.info.specs.Info.{appVersion, infoOf}
 use Rattle.device.specs.Refusals.{eraseFits, capacityFits, setUp, runFits, wellFormed, lengthsOf, refusalOf}
 use Rattle.handler.specs.Handling.{handledOf}
 use Rattle.dispatcher.specs.Dispatch.{replyOf, answeredOf, obeyedOf, unaddressedOf, addressedOf, dispatchOf}

@@ -12,7 +12,7 @@ use Rattle.commands.specs.Fields.{Ok, Unsupported}
 use Rattle.commands.specs.Erase.{Erased, eraseOf}
 use Rattle.writes.specs.Write.{Wrote, cmdWriteOf}
 use Rattle.commands.specs.Verify.{Verified, verifyOf}
-use Rattle.commands.specs.Info.{infoOf, infoLaid}
+use Rattle.info.specs.Info.{infoOf, infoLaid}
 use Rattle.commands.specs.Reset.{Resets, resetOf}
 use Rattle.device.specs.declared.Setup.{Setup}
 use Rattle.handler.specs.declared.Handled.{Handled}

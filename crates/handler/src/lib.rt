@@ -2,7 +2,6 @@
 // in the header.
 
 use commands::erase;
-use commands::info;
 use commands::reset;
 use commands::verify;
 use device::Setup;

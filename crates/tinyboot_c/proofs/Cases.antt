@@ -13,8 +13,7 @@ use Rattle.device.specs.declared.Setup.{Setup}
 use Rattle.device.specs.Refusals.{setUp, runFits, wellFormed, lengthsOf, refusalOf}
 use Rattle.device.specs.Starts.{Left, newState, startRefusal, startedOf}
 use Rattle.dispatcher.specs.Answers.{Told, mute, toldOf}
-use Rattle.feed.specs.Feed.{Called, passedTo, fedOf}
-use Rattle.feed.specs.declared.Passed.{Passed}
+use Rattle.feed.specs.Feed.{fedOf}
 use Rattle.tinyboot_c.specs.declared.answer.Said.{Said}
 use Rattle.tinyboot_c.specs.Layout.{setupFrom, holdsState, stateFrom, numberBytes, partBytes, stateBytes, answerBytes}
 use Rattle.tinyboot_c.specs.Calls
@@ -44,20 +43,7 @@ pub new-laid : (s : List ℕ) → length s ≡ 136 → Calls.afterNew 0 (stateBy
 unfolding Calls.cNew
 new-laid s h = yes (eqb (length s) 136) (Calls.afterNew 0 (stateBytes (newState 52 64 false))) (Calls.afterNew 11 s) (eq-eqb (length s) 136 h)
 
--- what the code of a feed leaves
-pub fed-laid : (p : Passed) (f page flash meta reply answer : List ℕ) (x : Called) → passedTo p f page flash meta reply ≡ x →
-    (said : Said) → Calls.toldBy said ≡ toldOf (p .answer) → (r : ℕ) → r ≡ said .number →
-    (s : List ℕ) → s ≡ partBytes f page (numberBytes (p .got) (p .fill) (p .next) (p .selected) (p .closed)) →
-    (a : List ℕ) → a ≡ over (answerBytes (Calls.toldBy said) (p .taken)) answer →
-    Calls.afterFeed r s flash meta reply a ≡ Calls.feedCalled x answer
-fed-laid p f page flash meta reply answer x e said t r k s ks a ka =
-    let n : r ≡ toldOf (p .answer) .number = k ∙ ap (λ (v : Told). v .number) t in
-    let ra : a ≡ over (answerBytes (toldOf (p .answer)) (p .taken)) answer = ka ∙ ap (λ (v : Told). over (answerBytes v (p .taken)) answer) t in
-    ap (λ (v : ℕ). Calls.afterFeed v s flash meta reply a) n ∙
-    ap (λ (v : List ℕ). Calls.afterFeed (toldOf (p .answer) .number) v flash meta reply a) ks ∙
-    ap (λ (v : List ℕ). Calls.afterFeed (toldOf (p .answer) .number) (stateBytes (passedTo p f page flash meta reply .state)) flash meta reply v) ra ∙
-    ap (λ (v : Called). Calls.feedCalled v answer) e
-
+-- a feed, case by case
 module _ (setup state bytes flash meta reply answer : List ℕ) where
   abbrev kept : ℕ → Calls.AfterFeed
   kept number = Calls.feedRefused number state flash meta reply answer

@@ -8,9 +8,9 @@ use lib.ListN.{length, drop, set, getD, length-set, drop-of-length-le}
 use lib.Seq.{sets, sets-eq, drop-cons}
 use native.Mathlib.Omega.{arith}
 use borrow.Author.Needs.{needs}
-use Rattle.commands.specs.Info.{infoLaid}
-use Rattle.commands.proofs.info.lay.Statement.{statement}
-use Rattle.commands.proofs.info.lay.Tie as tie
+use Rattle.info.specs.Info.{infoLaid}
+use Rattle.info.proofs.lay.Statement.{statement}
+use Rattle.info.proofs.lay.Tie as tie
 
 abbrev Inv-loop : tie.InvT-loop
 Inv-loop f₀ new i₀ f i = (i ≤ 18) × (length f ≡ 64) × (sets f (10 + i) (drop i new) ≡ sets f₀ 10 new)

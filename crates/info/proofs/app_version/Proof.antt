@@ -1,7 +1,7 @@
-use Rattle.commands.proofs.Informing.{version-short, version-long, version-there}
+use Rattle.info.proofs.Informing.{version-short, version-long, version-there}
 use borrow.Author.Needs.{needs}
-use Rattle.commands.proofs.info.app_version.Statement.{statement}
-use Rattle.commands.proofs.info.app_version.Tie as tie
+use Rattle.info.proofs.app_version.Statement.{statement}
+use Rattle.info.proofs.app_version.Tie as tie
 
 app-size-requires : tie.Need-app-size-requires
 app-size-requires c κs = search needs

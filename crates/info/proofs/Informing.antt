@@ -10,7 +10,7 @@ use lib.Dec.{ltb}
 use borrow.Author.Tests.{lt-ltb, le-ltb}
 use Rattle.laws.specs.Low.{lowFirst, lowBytes}
 use Rattle.platform.specs.Record.{sizeOf, baudOf}
-use Rattle.commands.specs.Info.{appVersion, infoOf, infoLaid}
+use Rattle.info.specs.Info.{appVersion, infoOf, infoLaid}
 
 or-true : (b : Bool) → b || true ≡ true
 or-true true = refl

@@ -6,7 +6,7 @@ use tinyboot_protocol::le;
 ghost use mathlib.Core.Path.{_≡_};
 ghost use lib.ListN.{length};
 ghost use Rattle.laws.specs.Low.{lowBytes};
-ghost use Rattle.commands.specs.Info.{appVersion, infoOf, infoLaid};
+ghost use Rattle.info.specs.Info.{appVersion, infoOf, infoLaid};
 
 // The payload capacity.
 const MAX_PAYLOAD: u16 = 52;

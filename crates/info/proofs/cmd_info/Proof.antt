@@ -1,11 +1,11 @@
 use Prim.Native.Nat.{ℕ}
 use mathlib.Core.Path.{ap, _∙_}
 use mathlib.Core.List.{List}
-use Rattle.commands.specs.Info.{infoLaid}
-use Rattle.commands.proofs.Informing.{info-built}
+use Rattle.info.specs.Info.{infoLaid}
+use Rattle.info.proofs.Informing.{info-built}
 use borrow.Author.Needs.{needs}
-use Rattle.commands.proofs.info.cmd_info.Statement.{statement}
-use Rattle.commands.proofs.info.cmd_info.Tie as tie
+use Rattle.info.proofs.cmd_info.Statement.{statement}
+use Rattle.info.proofs.cmd_info.Tie as tie
 
 bytes4-requires : tie.Need-bytes4-requires
 bytes4-requires c κs = search needs
