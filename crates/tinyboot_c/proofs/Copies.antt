@@ -1,30 +1,12 @@
--- Loops that copy bytes.
-use Prim.Native.Nat.{ℕ, suc, _+_, _-_, _<_, _≤_}
-use mathlib.Core.Path.{_≡_, refl, ap, sym, _∙_}
-use mathlib.Core.List.{List, [], _∷_, _++_, append-nil}
+-- Parts of a list, byte by byte.
+use Prim.Native.Nat.{ℕ, suc, _+_, _<_, _≤_}
+use mathlib.Core.Path.{_≡_, refl, ap, _∙_}
+use mathlib.Core.List.{List, [], _∷_}
 use native.Mathlib.Omega.{arith}
 use native.Mathlib.Numerals.{add-one}
-use lib.ListN.{length, getD, take, drop, set, length-drop, drop-of-length-le}
-use lib.Seq.{paste, paste-suc, getD-drop, drop-cons}
+use lib.ListN.{length, getD, take}
+use lib.Seq.{drop-cons}
 use Rattle.tinyboot_c.specs.Layout.{part}
-
--- an array a of n bytes is filled from the place at on: i bytes have come, and b is what stands there
-module _ (s a : List ℕ) (at i n : ℕ) (l : length a ≡ n) (w : at + n ≤ length s) (b : List ℕ) (inv : b ≡ paste a 0 (drop at s) i) where
-  -- one more comes
-  pub fetched : i < n → set b i (getD s (at + i) 0) ≡ paste a 0 (drop at s) (i + 1)
-  fetched h =
-      let k : i < length (drop at s) = simp (length-drop at s) (omega arith) in
-      let z : 0 + i ≡ i = omega arith in
-      let e : getD (drop at s) i 0 ≡ getD s (at + i) 0 = getD-drop at s i 0 in
-      rw (inv, add-one, ← e)
-      (ap (λ (m : ℕ). set (paste a 0 (drop at s) i) m (getD (drop at s) i 0)) (sym z) ∙ paste-suc a 0 (drop at s) i 0 (omega arith) k)
-
-  -- all have come
-  pub fetched-all : n ≤ i → i ≤ n → b ≡ part at n s
-  fetched-all p q =
-      let e : i ≡ n = omega arith in
-      let d : drop (0 + i) a ≡ [] = drop-of-length-le a {i = 0 + i} (omega arith) in
-      inv ∙ ap (λ (r : List ℕ). take i (drop at s) ++ r) d ∙ append-nil (take i (drop at s)) ∙ ap (λ (k : ℕ). take k (drop at s)) e
 
 -- a part is its first byte, then the part after that
 pub part-cons : (l : List ℕ) (at n : ℕ) → at < length l → part at (suc n) l ≡ getD l at 0 ∷ part (at + 1) n l
