@@ -1,17 +1,19 @@
 -- A reply built in the frame and sent, and what the end of a frame leaves.
 use Prim.Native.Nat.{ℕ}
-use mathlib.Core.Path.{_≡_, refl, ap, _∙_}
+use mathlib.Core.Path.{_≡_, refl}
 use mathlib.Core.Bool.{Bool, true, false}
 use mathlib.Core.List.{List}
+use lib.ListN.{length, take}
 use lib.Dec.{eqb}
 use Rattle.tinyboot_protocol.specs.Flags.{bitOf}
+use Rattle.frames.specs.Reading.{cmdOf}
 use Rattle.frames.specs.Sent.{Sent, sendOf}
-use Rattle.tinyboot_core.specs.Select.{Choice}
+use Rattle.tinyboot_core.specs.Select.{selectOf}
 use Rattle.commands.specs.Fields.{flagsOf}
 use Rattle.device.specs.declared.Setup.{Setup}
 use Rattle.dispatcher.specs.Answers.{reply, restart}
-use Rattle.handler.specs.Handling.{Held, Obeyed, loaded, handledOf}
-use Rattle.dispatcher.specs.Dispatch.{headed, Spoken, spoken, replyOf, Ending, silent, spokenTo, answeredOf, obeyedOf, laid, chosen}
+use Rattle.handler.specs.Handling.{Held, Obeyed}
+use Rattle.dispatcher.specs.Dispatch.{headed, Spoken, spoken, replyOf, silent, spokenTo, answeredOf, obeyedOf, unaddressedOf, chosen, addressedOf, dispatchOf}
 
 module _ (cap status len wait : ℕ) (f room : List ℕ) (due : Bool) (s : Sent) (k : s ≡ sendOf cap (headed status len f) room) where
   pub reply-restart : due ≡ true → (m : ℕ) → m ≡ bitOf 0 (flagsOf f) → spoken (restart (s .count) m) (s .bytes) (s .room) ≡ replyOf cap status len due wait f room
@@ -22,21 +24,39 @@ module _ (cap status len wait : ℕ) (f room : List ℕ) (due : Bool) (s : Sent)
   unfolding replyOf
   reply-only w = rw (w, k) refl
 
--- a good request is handled
-pub obeyed-good : (cap page : ℕ) (s : Setup) (status : ℕ) (h : Held) → eqb status 1 ≡ true → (selected : Bool) (room : List ℕ) →
-    answeredOf cap 0 (obeyedOf cap page s status h) selected room ≡ answeredOf cap 0 (handledOf cap page s h) selected room
-unfolding obeyedOf
-obeyed-good cap page s status h w selected room = simp w
-
--- the reply to what was obeyed, x being what the code holds of it
-pub answered : (cap wait : ℕ) (x y : Obeyed) (k : x ≡ y) (selected : Bool) (room : List ℕ) (s : Spoken) →
-    s ≡ replyOf cap (x .status) (x .len) (x .restart) wait (x .left .bytes) room → spokenTo x selected s ≡ answeredOf cap wait y selected room
+-- the reply to what was done, x being what the code holds of it
+pub answered : (cap wait : ℕ) (x y : Obeyed) (k : x ≡ y) (selected after : Bool) (w : selected ≡ after) (room : List ℕ) (s : Spoken) →
+    s ≡ replyOf cap (x .status) (x .len) (x .restart) wait (x .left .bytes) room → spokenTo x selected s ≡ answeredOf cap wait y after room
 unfolding answeredOf
-answered cap wait x y k selected room s e = rw (e, k) refl
+answered cap wait x y k selected after w room s e = rw (e, k, w) refl
 
-module _ (cap idLen : ℕ) (h : Held) (room : List ℕ) (x c : Choice) (k : x ≡ c) where
-  pub chosen-replied : x .match ≡ true → (e : Ending) → e ≡ answeredOf cap (x .wait) (loaded idLen (laid h x)) true room → e ≡ chosen cap idLen h room c
-  chosen-replied w e q = q ∙ (simp w at (ap (chosen cap idLen h room) k))
+-- what a frame calls for, case by case
+module _ (cap page : ℕ) (s : Setup) (status : ℕ) (h : Held) (on : Bool) (room : List ℕ) where
+  module _ (w : eqb (s .«id_len») 0 ≡ true) where
+    pub overheard : eqb status 0 ≡ true → silent h on room ≡ dispatchOf cap page s status h on room
+    unfolding dispatchOf unaddressedOf
+    overheard e = simp (w, e)
 
-  pub chosen-silent : x .match ≡ false → silent (laid h x) false room ≡ chosen cap idLen h room c
-  chosen-silent w = simp w at (ap (chosen cap idLen h room) k)
+    pub for-all : eqb status 0 ≡ false → answeredOf cap 0 (obeyedOf cap page s status h) on room ≡ dispatchOf cap page s status h on room
+    unfolding dispatchOf unaddressedOf
+    for-all e = simp (w, e)
+
+  module _ (w : eqb (s .«id_len») 0 ≡ false) where
+    pub damaged : eqb status 1 ≡ false → silent h on room ≡ dispatchOf cap page s status h on room
+    unfolding dispatchOf addressedOf
+    damaged e = simp (w, e)
+
+    module _ (g : eqb status 1 ≡ true) where
+      pub a-select : eqb (cmdOf (h .bytes)) 5 ≡ true →
+          chosen cap (length (take (s .«id_len») (s .id))) h room (selectOf (take (s .«id_len») (s .id)) (h .bytes)) ≡ dispatchOf cap page s status h on room
+      unfolding dispatchOf addressedOf
+      a-select e = simp (w, g, e)
+
+      module _ (n : eqb (cmdOf (h .bytes)) 5 ≡ false) where
+        pub for-me : on ≡ true → answeredOf cap 0 (obeyedOf cap page s status h) on room ≡ dispatchOf cap page s status h on room
+        unfolding dispatchOf addressedOf obeyedOf
+        for-me e = simp (w, g, n, e)
+
+        pub for-another : on ≡ false → silent h on room ≡ dispatchOf cap page s status h on room
+        unfolding dispatchOf addressedOf
+        for-another e = simp (w, g, n, e)

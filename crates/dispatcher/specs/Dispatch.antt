@@ -14,6 +14,7 @@ use Rattle.commands.specs.Fields.{flagsOf, Ok}
 use Rattle.device.specs.declared.Setup.{Setup}
 use Rattle.dispatcher.specs.declared.Answer.{Answer}
 use Rattle.dispatcher.specs.declared.dispatch.Dispatched.{Dispatched}
+use Rattle.dispatcher.specs.declared.dispatch.Turn.{Turn}
 use Rattle.dispatcher.specs.Answers.{Told, mute, reply, restart, toldOf}
 use Rattle.handler.specs.Handling.{Held, held, Obeyed, bare, loaded, handledOf}
 
@@ -102,3 +103,14 @@ addressedOf cap page s status h selected room =
 unfoldable pub dispatchOf : ℕ → ℕ → Setup → ℕ → Held → Bool → List ℕ → Ending
 dispatchOf cap page s status h selected room =
     pick (eqb (s .«id_len») 0) (unaddressedOf cap page s status h selected room) (addressedOf cap page s status h selected room)
+
+-- below here: what the functions under the public call promise each other
+
+-- to a Select that matches the id is replied, which is in the data area by then
+abbrev pub doneOf : ℕ → ℕ → Setup → ℕ → Held → Bool → Obeyed
+doneOf cap page s status h chosen = pick chosen (loaded (length (take (s .«id_len») (s .id))) h) (obeyedOf cap page s status h)
+
+-- the rest of the way, after each case of the code's turn; such a Select selects
+abbrev pub turned : ℕ → ℕ → Setup → ℕ → Held → Bool → List ℕ → Turn → Ending
+turned cap page s status h selected room (Turn.Silent after) = silent h after room
+turned cap page s status h selected room (Turn.Reply chosen wait) = answeredOf cap wait (doneOf cap page s status h chosen) (pick chosen true selected) room

@@ -8,23 +8,23 @@ use handler::Handled;
 use tinyboot_core::addressing;
 use tinyboot_core::addressing::MAX_UID_LEN;
 use tinyboot_core::addressing::Selected;
-use tinyboot_protocol::Cmd;
 use tinyboot_protocol::ResetFlags;
 use tinyboot_protocol::Status;
 use tinyboot_protocol::le;
 ghost use mathlib.Core.Path.{_≡_};
-ghost use mathlib.Core.Bool.{true, false};
+ghost use mathlib.Core.Bool.{Bool, true};
 ghost use mathlib.Core.List.{List};
-ghost use Prim.Native.Nat.{ℕ, _≤_};
+ghost use Prim.Native.Nat.{ℕ};
 ghost use lib.Dec.{eqb};
 ghost use lib.ListN.{length, take};
+ghost use Rattle.laws.specs.Pick.{pick};
 ghost use Rattle.tinyboot_protocol.specs.Names.{statusNumber};
 ghost use Rattle.frames.specs.Reading.{cmdOf};
 ghost use Rattle.tinyboot_core.specs.Select.{selectOf};
 ghost use Rattle.commands.specs.Fields.{flagsOf};
 ghost use Rattle.dispatcher.specs.Answers.{toldOf};
 ghost use Rattle.handler.specs.Handling.{held, handledTo};
-ghost use Rattle.dispatcher.specs.Dispatch.{headed, spoken, replyOf, endedTo, mutedTo, answeredOf, obeyedOf, unaddressedOf, chosen, addressedOf, dispatchOf};
+ghost use Rattle.dispatcher.specs.Dispatch.{headed, spoken, replyOf, endedTo, mutedTo, chosen, dispatchOf, turned, doneOf};
 
 // What the end of a frame leaves beside what it is lent.
 pub struct Dispatched {
@@ -78,6 +78,16 @@ fn reply(h: Handled, wait: u8, f: &mut [u8; 64], room: &mut [u8]) -> Answer
     }
 }
 
+// A Select that matches selects; no other reply changes that.
+fn either(chosen: bool, on: bool) -> bool
+    ensures { λ r. ⌜ r ≡ pick chosen true on ⌝ }
+{
+    if chosen {
+        return true;
+    }
+    on
+}
+
 fn mute(fill: usize, next: u32, on: bool) -> Dispatched
     ensures { λ r. ⌜ r ≡ mutedTo fill next on ⌝ }
 {
@@ -87,53 +97,6 @@ fn mute(fill: usize, next: u32, on: bool) -> Dispatched
         next: next,
         selected: on,
         closed: false,
-    }
-}
-
-// A good request is carried out; an error is replied to.
-fn obey(
-    setup: Setup,
-    status: Status,
-    f: &mut [u8; 64],
-    page: &mut [u8; 64],
-    fill: usize,
-    next: u32,
-    flash: &mut [u8],
-    meta: &mut [u8],
-) -> Handled
-    ensures { λ r. ⌜ handledTo r (now (f .exit)) (now (page .exit)) (now (flash .exit)) (now (meta .exit)) ≡
-        obeyedOf 52 64 setup (statusNumber status) (held (now (f .entry)) (now (page .entry)) fill next (now (flash .entry)) (now (meta .entry))) ⌝ }
-{
-    if handler::is_ok(status) {
-        return handler::handle(setup, f, page, fill, next, flash, meta);
-    }
-    handler::bare(status, fill, next)
-}
-
-// What is not silent.
-fn answer(
-    setup: Setup,
-    status: Status,
-    f: &mut [u8; 64],
-    page: &mut [u8; 64],
-    fill: usize,
-    next: u32,
-    on: bool,
-    flash: &mut [u8],
-    meta: &mut [u8],
-    room: &mut [u8],
-) -> Dispatched
-    ensures { λ r. ⌜ endedTo r (now (f .exit)) (now (page .exit)) (now (flash .exit)) (now (meta .exit)) (now (room .exit)) ≡
-        answeredOf 52 0 (obeyedOf 52 64 setup (statusNumber status) (held (now (f .entry)) (now (page .entry)) fill next (now (flash .entry)) (now (meta .entry)))) on (now (room .entry)) ⌝ }
-{
-    let h = obey(setup, status, f, page, fill, next, flash, meta);
-    let a = reply(h, 0, f, room);
-    Dispatched {
-        answer: a,
-        fill: h.fill,
-        next: h.next,
-        selected: on,
-        closed: h.restart,
     }
 }
 
@@ -153,76 +116,82 @@ fn id_len(setup: Setup) -> u16
     16
 }
 
-fn select(setup: Setup, f: &mut [u8; 64], fill: usize, next: u32, room: &mut [u8]) -> Dispatched
-    ensures { λ r. ⌜ ((p flash meta : List ℕ) → endedTo r (now (f .exit)) p flash meta (now (room .exit)) ≡
-        chosen 52 (length (take (setup .«id_len») (setup .id))) (held (now (f .entry)) p fill next flash meta) (now (room .entry)) (selectOf (take (setup .«id_len») (setup .id)) (now (f .entry)))) ⌝ }
+// What a frame that has ended calls for: silence, and whether the device is selected after it; or a reply after a wait, to a Select that matches or to
+// what else is asked.
+enum Turn {
+    Silent { selected: bool },
+    Reply { chosen: bool, wait: u8 },
+}
+
+// Match or not, the id is in the data area afterwards.
+fn select(setup: Setup, f: &mut [u8; 64]) -> Turn
+    ensures { λ r. ⌜ ((status : ℕ) (p : List ℕ) (fill next : ℕ) (flash meta : List ℕ) (on : Bool) (room : List ℕ) →
+        turned 52 64 setup status (held (now (f .exit)) p fill next flash meta) on room r ≡
+        chosen 52 (length (take (setup .«id_len») (setup .id))) (held (now (f .entry)) p fill next flash meta) room (selectOf (take (setup .«id_len») (setup .id)) (now (f .entry)))) ⌝ }
 {
     let id = setup.id;
     let choice = addressing::select(id, setup.id_len, f);
     match choice {
-        Selected::Yes { wait } => {
-            let h = handler::loaded(id_len(setup), fill, next);
-            let a = reply(h, wait, f, room);
-            Dispatched {
-                answer: a,
-                fill: fill,
-                next: next,
-                selected: true,
-                closed: false,
-            }
+        Selected::Yes { wait } => Turn::Reply {
+            chosen: true,
+            wait: wait,
+        },
+        Selected::No => Turn::Silent { selected: false },
+    }
+}
+
+// An unaddressed device replies to all but another's reply; an addressed one to a Select that matches it and, while selected, to other requests.
+fn decide(setup: Setup, status: Status, f: &mut [u8; 64], on: bool) -> Turn
+    ensures { λ r. ⌜ ((p : List ℕ) (fill next : ℕ) (flash meta room : List ℕ) →
+        turned 52 64 setup (statusNumber status) (held (now (f .exit)) p fill next flash meta) on room r ≡
+        dispatchOf 52 64 setup (statusNumber status) (held (now (f .entry)) p fill next flash meta) on room) ⌝ }
+{
+    if setup.id_len == 0 {
+        if is_request(status) {
+            return Turn::Silent { selected: on };
         }
-        Selected::No => mute(fill, next, false),
+        return Turn::Reply {
+            chosen: false,
+            wait: 0,
+        };
     }
-}
-
-// An unaddressed device replies to all but another's reply.
-fn unaddressed(
-    setup: Setup,
-    status: Status,
-    f: &mut [u8; 64],
-    page: &mut [u8; 64],
-    fill: usize,
-    next: u32,
-    on: bool,
-    flash: &mut [u8],
-    meta: &mut [u8],
-    room: &mut [u8],
-) -> Dispatched
-    ensures { λ r. ⌜ endedTo r (now (f .exit)) (now (page .exit)) (now (flash .exit)) (now (meta .exit)) (now (room .exit)) ≡
-        unaddressedOf 52 64 setup (statusNumber status) (held (now (f .entry)) (now (page .entry)) fill next (now (flash .entry)) (now (meta .entry))) on (now (room .entry)) ⌝ }
-{
-    if is_request(status) {
-        return mute(fill, next, on);
-    }
-    answer(setup, status, f, page, fill, next, on, flash, meta, room)
-}
-
-// An addressed one replies to a Select that matches it and, while selected, to other requests.
-fn addressed(
-    setup: Setup,
-    status: Status,
-    f: &mut [u8; 64],
-    page: &mut [u8; 64],
-    fill: usize,
-    next: u32,
-    on: bool,
-    flash: &mut [u8],
-    meta: &mut [u8],
-    room: &mut [u8],
-) -> Dispatched
-    ensures { λ r. ⌜ endedTo r (now (f .exit)) (now (page .exit)) (now (flash .exit)) (now (meta .exit)) (now (room .exit)) ≡
-        addressedOf 52 64 setup (statusNumber status) (held (now (f .entry)) (now (page .entry)) fill next (now (flash .entry)) (now (meta .entry))) on (now (room .entry)) ⌝ }
-{
     if !handler::is_ok(status) {
-        return mute(fill, next, on);
+        return Turn::Silent { selected: on };
     }
     if is_select(f) {
-        return select(setup, f, fill, next, room);
+        return select(setup, f);
     }
     if on {
-        return answer(setup, status, f, page, fill, next, on, flash, meta, room);
+        return Turn::Reply {
+            chosen: false,
+            wait: 0,
+        };
     }
-    mute(fill, next, on)
+    Turn::Silent { selected: on }
+}
+
+// A Select's reply carries the id; another good request is carried out; an error is replied to.
+fn done(
+    chosen: bool,
+    setup: Setup,
+    status: Status,
+    f: &mut [u8; 64],
+    page: &mut [u8; 64],
+    fill: usize,
+    next: u32,
+    flash: &mut [u8],
+    meta: &mut [u8],
+) -> Handled
+    ensures { λ r. ⌜ handledTo r (now (f .exit)) (now (page .exit)) (now (flash .exit)) (now (meta .exit)) ≡
+        doneOf 52 64 setup (statusNumber status) (held (now (f .entry)) (now (page .entry)) fill next (now (flash .entry)) (now (meta .entry))) chosen ⌝ }
+{
+    if chosen {
+        return handler::loaded(id_len(setup), fill, next);
+    }
+    if handler::is_ok(status) {
+        return handler::handle(setup, f, page, fill, next, flash, meta);
+    }
+    handler::bare(status, fill, next)
 }
 
 // A frame that has ended, of which the reader says this.
@@ -241,8 +210,19 @@ pub fn dispatch(
     ensures { λ r. ⌜ endedTo r (now (f .exit)) (now (page .exit)) (now (flash .exit)) (now (meta .exit)) (now (room .exit)) ≡
         dispatchOf 52 64 setup (statusNumber status) (held (now (f .entry)) (now (page .entry)) fill next (now (flash .entry)) (now (meta .entry))) on (now (room .entry)) ⌝ }
 {
-    if setup.id_len == 0 {
-        return unaddressed(setup, status, f, page, fill, next, on, flash, meta, room);
+    let t = decide(setup, status, f, on);
+    match t {
+        Turn::Silent { selected } => mute(fill, next, selected),
+        Turn::Reply { chosen, wait } => {
+            let h = done(chosen, setup, status, f, page, fill, next, flash, meta);
+            let a = reply(h, wait, f, room);
+            Dispatched {
+                answer: a,
+                fill: h.fill,
+                next: h.next,
+                selected: either(chosen, on),
+                closed: h.restart,
+            }
+        }
     }
-    addressed(setup, status, f, page, fill, next, on, flash, meta, room)
 }
