@@ -60,15 +60,22 @@ fn capacity_fits(erase: usize, capacity: usize) -> bool
     capacity % erase == 0
 }
 
-pub fn set_up(setup: Setup) -> bool
-    ensures { λ r. ⌜ r ≡ setUp 64 (setup .«erase_size») (setup .capacity) (setup .«id_len») ⌝ }
+// Whether these numbers are a setup's.
+pub fn fits(erase: usize, capacity: usize, id_len: usize) -> bool
+    ensures { λ r. ⌜ r ≡ setUp 64 erase capacity «id_len» ⌝ }
 {
-    if erase_fits(setup.erase_size) {
-        if capacity_fits(setup.erase_size, setup.capacity) {
-            return setup.id_len <= 16;
+    if erase_fits(erase) {
+        if capacity_fits(erase, capacity) {
+            return id_len <= 16;
         }
     }
     false
+}
+
+pub fn set_up(setup: Setup) -> bool
+    ensures { λ r. ⌜ r ≡ setUp 64 (setup .«erase_size») (setup .capacity) (setup .«id_len») ⌝ }
+{
+    fits(setup.erase_size, setup.capacity, setup.id_len)
 }
 
 // With no write pending nothing is filled; else the next write is within the capacity, and the fill is its place in the page.

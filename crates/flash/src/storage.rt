@@ -1,6 +1,7 @@
 // Translated from tinyboot, ch32/src/platform/storage.rs (MIT OR Apache-2.0); changed: the flash is a lent array, and the tests that the Rust makes
 // only in a debug build are made always.
 
+use crate::cells::first;
 ghost use mathlib.Core.Path.{_≡_};
 ghost use Prim.Native.Nat.{_+_, _-_, _≤_};
 ghost use lib.ListN.{length, take};
@@ -63,10 +64,8 @@ pub fn write(flash: &mut [u8], offset: usize, bytes: &[u8]) -> Stored
 pub fn write_part(flash: &mut [u8], offset: usize, bytes: &[u8], n: usize) -> Stored
     ensures { λ r. ⌜ leaves r (now (flash .exit)) ≡ writeOf 64 (now (flash .entry)) offset (take n (now (bytes .entry))) ⌝ }
 {
-    if n < bytes.len() {
-        return write(flash, offset, &bytes[..n]);
-    }
-    write(flash, offset, bytes)
+    let part = first(bytes, n);
+    write(flash, offset, part)
 }
 
 // Whole pages.

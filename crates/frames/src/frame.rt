@@ -211,8 +211,8 @@ fn head(f: &mut [u8], got: usize, device: bool, b: u8) -> Step
     Step { got: 0, end: end }
 }
 
-// m bytes from at on, copied to got and on.
-fn fill(f: &mut [u8], got: usize, bytes: &[u8], at: usize, m: usize)
+// m bytes from at on, copied to got and on, one by one.
+fn copy(f: &mut [u8], got: usize, bytes: &[u8], at: usize, m: usize)
     requires { ⌜ (length (now f) ≡ 64) × (got + m ≤ 64) × (at + m ≤ length (now bytes)) ⌝ }
     ensures { λ r. ⌜ now (f .exit) ≡ paste (now (f .entry)) got (drop at (now (bytes .entry))) m ⌝ }
 {
@@ -221,6 +221,16 @@ fn fill(f: &mut [u8], got: usize, bytes: &[u8], at: usize, m: usize)
         f[got + j] = bytes[at + j];
         j += 1;
     }
+}
+
+// The same through a local array: of that the compiler knows that nothing else is in it, and both loops become one move.
+fn fill(f: &mut [u8], got: usize, bytes: &[u8], at: usize, m: usize)
+    requires { ⌜ (length (now f) ≡ 64) × (got + m ≤ 64) × (at + m ≤ length (now bytes)) ⌝ }
+    ensures { λ r. ⌜ now (f .exit) ≡ paste (now (f .entry)) got (drop at (now (bytes .entry))) m ⌝ }
+{
+    let mut a = [0u8; 64];
+    copy(&mut a, 0, bytes, at, m);
+    copy(f, got, &a, 0, m);
 }
 
 // How many data bytes are still to come: none before the header is whole.

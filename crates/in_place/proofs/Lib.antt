@@ -1,2 +1,4 @@
 pub mod Copies
 pub mod Placed
+pub mod Plain
+pub mod Quick

@@ -14,6 +14,7 @@ use feed::refused;
 use feed::status_of;
 use frames::frame;
 use tinyboot_protocol::Status;
+use tinyboot_protocol::le;
 ghost use mathlib.Core.Path.{_≡_};
 ghost use mathlib.Core.Bool.{true, false};
 ghost use mathlib.Core.List.{_++_};
@@ -27,6 +28,7 @@ ghost use Rattle.handler.specs.Handling.{held};
 ghost use Rattle.dispatcher.specs.Dispatch.{dispatchOf};
 ghost use Rattle.feed.specs.Feed.{takenOf};
 ghost use Rattle.in_place.specs.On.{frameIn, pageIn, restIn, stateIn, endingOn, endBy, calledOn, onBy, fedOn};
+ghost use Rattle.in_place.specs.Byte.{plainAt, laidTo, layByteOf, clearOf, byteOn};
 
 // The 64 bytes from a place on.
 fn fetch(s: &[u8], at: usize, a: &mut [u8; 64])
@@ -221,4 +223,95 @@ pub fn feed_on(
         );
     }
     after(got, fill, next, selected, closed, 0, refused(refusal))
+}
+
+// Whether the byte at this place is only stored: past the sync word it is one of the header but for its last, or one of the data.
+fn is_plain(f: &[u8], got: usize) -> bool
+    requires { ⌜ length (now f) ≡ 64 ⌝ }
+    ensures { λ r. ⌜ r ≡ plainAt (now (f .entry)) got ⌝ }
+{
+    if got < 2 {
+        return false;
+    }
+    if got < 9 {
+        return true;
+    }
+    if got == 9 {
+        return false;
+    }
+    got < 10 + le::read16(f[8], f[9]) as usize
+}
+
+// Stores one byte more where that is all there is to do, and says whether it did. Most bytes of a stream are such ones: to take them one at a time costs
+// little.
+fn lay_byte(f: &mut [u8], got: usize, device: bool, b: u8) -> bool
+    ensures { λ r. ⌜ laidTo r (now (f .exit)) ≡ layByteOf 52 device (now (f .entry)) got b ⌝ }
+{
+    if frame::begins(f, got, device) {
+        if is_plain(f, got) {
+            f[got] = b;
+            return true;
+        }
+    }
+    false
+}
+
+// Whether nothing but the frame can refuse a call.
+fn clear(
+    erase: usize,
+    capacity: usize,
+    id_len: usize,
+    fill: usize,
+    next: u32,
+    closed: bool,
+    flash: usize,
+    meta: usize,
+    room: usize,
+) -> bool
+    ensures { λ r. ⌜ r ≡ clearOf 52 64 erase capacity «id_len» fill next closed flash meta room ⌝ }
+{
+    if refusal::fits(erase, capacity, id_len) {
+        if refusal::run_fits(capacity, fill, next) {
+            let refusal = refusal::of_lengths(capacity, flash, meta, room, closed);
+            return refusal.is_none();
+        }
+    }
+    false
+}
+
+// A call on one byte where that byte is only stored, and whether it is: else nothing is done, and `feed_on` is to be called. Of the rest of the state
+// only `got` moves on, by 1.
+pub fn byte_on(
+    erase: usize,
+    capacity: usize,
+    id_len: usize,
+    got: usize,
+    fill: usize,
+    next: u32,
+    closed: bool,
+    s: &mut [u8],
+    b: u8,
+    flash: usize,
+    meta: usize,
+    room: usize,
+) -> bool
+    ensures { λ r. ⌜ laidTo r (now (s .exit)) ≡ byteOn 52 64 erase capacity «id_len» got fill next closed (now (s .entry)) b flash meta room ⌝ }
+{
+    if s.len() < 128 {
+        return false;
+    }
+    if clear(
+        erase,
+        capacity,
+        id_len,
+        fill,
+        next,
+        closed,
+        flash,
+        meta,
+        room,
+    ) {
+        return lay_byte(&mut s[..64], got, true, b);
+    }
+    false
 }

@@ -2,8 +2,8 @@ use mathlib.Core.Path.{sym, _∙_}
 use Rattle.device.specs.Refusals.{setUp}
 use native.Mathlib.Omega.{arith}
 use borrow.Author.Needs.{needs}
-use Rattle.device.proofs.refusal.set_up.Statement.{statement}
-use Rattle.device.proofs.refusal.set_up.Tie as tie
+use Rattle.device.proofs.refusal.fits.Statement.{statement}
+use Rattle.device.proofs.refusal.fits.Tie as tie
 
 erase-fits-requires : tie.Need-erase-fits-requires
 erase-fits-requires c κs = search needs
@@ -13,7 +13,7 @@ capacity-fits-requires c κs = search needs
 
 returns : tie.Need-returns
 unfolding setUp
-returns c = simp (sym (c .before .before .before .before .erase-fits .ensures) ∙ c .before .before .before .if1 .taken, sym (c .before .before .capacity-fits .ensures) ∙ c .before .if2 .taken)
+returns c = simp (sym (c .before .before .before .erase-fits .ensures) ∙ c .before .before .if1 .taken, sym (c .before .capacity-fits .ensures) ∙ c .if2 .taken)
 
 returns-2 : tie.Need-returns-2
 unfolding setUp
@@ -23,6 +23,6 @@ returns-3 : tie.Need-returns-3
 unfolding setUp
 returns-3 c = simp (sym (c .before .erase-fits .ensures) ∙ c .if1 .left)
 
-pub set-up-spec : {M : Type 1} → statement M
-set-up-spec =
+pub fits-spec : {M : Type 1} → statement M
+fits-spec =
     tie.close (tie.spec erase-fits-requires capacity-fits-requires returns returns-2 returns-3)
