@@ -93,8 +93,21 @@ laid-due : (t : Bool) (x f : List ℕ) → pick t (laidTo true x) (laidTo false 
 laid-due true x f e = refl
 laid-due false x f e = cc
 
-module _ (setup : Setup) (s : List ℕ) (got fill next : ℕ) (selected closed : Bool) (b : ℕ) (flash meta room : List ℕ) (s' : List ℕ)
-    (e : laidTo true s' ≡ byteOn 52 64 (setup .«erase_size») (setup .capacity) (setup .«id_len») got fill next closed s b (length flash) (length meta) (length room)) where
+laid-not : (t d : Bool) (x s s' : List ℕ) → laidTo false s' ≡ pick t (laidTo d (pick d x s)) (laidTo false s) → s' ≡ s
+laid-not true true x s s' e = let no : false ≡ true = ap (λ (v : Laid). v .done) e in cc
+laid-not true false x s s' e = ap (λ (v : Laid). v .bytes) e
+laid-not false d x s s' e = ap (λ (v : Laid). v .bytes) e
+
+-- not taken, the byte leaves all as it was
+pub byte-kept : (erase capacity idLen got fill next : ℕ) (closed : Bool) (s : List ℕ) (b flash meta room : ℕ) (s' : List ℕ) →
+    laidTo false s' ≡ byteOn 52 64 erase capacity idLen got fill next closed s b flash meta room → s' ≡ s
+unfolding byteOn
+byte-kept erase capacity idLen got fill next closed s b flash meta room s' e =
+    let d : Bool = layByteOf 52 true (frameIn 52 s) got b .done in
+    laid-not (leb 128 (length s) && clearOf 52 64 erase capacity idLen fill next closed flash meta room) d (set s got b) s s' e
+
+module _ (setup : Setup) (s : List ℕ) (got fill next : ℕ) (selected closed : Bool) (b flash meta room : ℕ) (s' : List ℕ)
+    (e : laidTo true s' ≡ byteOn 52 64 (setup .«erase_size») (setup .capacity) (setup .«id_len») got fill next closed s b flash meta room) where
   abbrev f : List ℕ
   f = frameIn 52 s
 
@@ -105,7 +118,7 @@ module _ (setup : Setup) (s : List ℕ) (got fill next : ℕ) (selected closed :
   run = runFits 64 (setup .capacity) fill next
 
   abbrev lengths : ℕ
-  lengths = lengthsOf 52 (setup .capacity) (length flash) (length meta) (length room) closed
+  lengths = lengthsOf 52 (setup .capacity) flash meta room closed
 
   parts : (leb 128 (length s) && (up && (run && eqb lengths 0)) ≡ true) × (layByteOf 52 true f got b .done ≡ true) × (s' ≡ set s got b)
   unfolding byteOn
@@ -142,22 +155,22 @@ module _ (setup : Setup) (s : List ℕ) (got fill next : ℕ) (selected closed :
       let two = and-both run (eqb lengths 0) (one .1) in
       (one .0, two .0, eqb-true lengths 0 (two .1))
 
-  none : 0 ≡ refusalOf 52 64 setup f got fill next closed (length flash) (length meta) (length room)
+  none : 0 ≡ refusalOf 52 64 setup f got fill next closed flash meta room
   unfolding refusalOf wellFormed
   none = sym (simp (clear .0, clear .1, well) (clear .2))
 
   ready-to : Allowed 52 f got closed
-  ready-to = allowed 52 64 setup f got fill next closed (length flash) (length meta) (length room) 0 none true refl refl
+  ready-to = allowed 52 64 setup f got fill next closed flash meta room 0 none true refl refl
 
   read : record { bytes = set f got b; got = got + 1; taken = 1; said = quiet } ≡ readOf 52 true f got (b ∷ [])
   read = sym (plain-read 52 true f got begins plain b) ∙ part-of-whole 52 true f got (b ∷ []) whole
 
-  pub byte-fed : record { told = mute 0; taken = 1; state = stateIn 52 64 s' (got + 1) fill next selected closed; flash = flash; meta = meta; room = room } ≡
-      fedOf 52 64 setup (stateIn 52 64 s got fill next selected closed) (b ∷ []) flash meta room
-  byte-fed =
-      let st : (v : Bool) → _ = λ v. stateIn 52 64 s got fill next selected v in
+  pub byte-fed : (fl me ro : List ℕ) → length fl ≡ flash → length me ≡ meta → length ro ≡ room →
+      record { told = mute 0; taken = 1; state = stateIn 52 64 s' (got + 1) fill next selected closed; flash = fl; meta = me; room = ro } ≡
+      fedOf 52 64 setup (stateIn 52 64 s got fill next selected closed) (b ∷ []) fl me ro
+  byte-fed fl me ro ef em er =
       let fr : frameIn 52 s' ≡ set f got b = ap (take 64) byte-laid ∙ take-set 64 s got b byte-within in
       let pg : pageIn 52 64 s' ≡ pageIn 52 64 s = ap (λ (v : List ℕ). take 64 (drop 64 v)) byte-laid ∙ ap (take 64) (drop-set-lt 64 s got b byte-within) in
-      call-taken 52 64 setup f got (pageIn 52 64 s) fill next selected closed (b ∷ []) flash meta room 0 none true refl refl
-      (record { told = mute 0; taken = 1; state = stateIn 52 64 s' (got + 1) fill next selected closed; flash = flash; meta = meta; room = room })
-      (rw (fr, pg, ready-to .unclosed) (call-quiet 52 64 setup (stateIn 52 64 s got fill next selected false) (b ∷ []) flash meta room _ read well refl))
+      call-taken 52 64 setup f got (pageIn 52 64 s) fill next selected closed (b ∷ []) fl me ro 0 (rw (ef, em, er) none) true refl refl
+      (record { told = mute 0; taken = 1; state = stateIn 52 64 s' (got + 1) fill next selected closed; flash = fl; meta = me; room = ro })
+      (rw (fr, pg, ready-to .unclosed) (call-quiet 52 64 setup (stateIn 52 64 s got fill next selected false) (b ∷ []) fl me ro _ read well refl))

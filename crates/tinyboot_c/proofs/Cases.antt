@@ -17,6 +17,7 @@ use Rattle.feed.specs.Feed.{fedOf}
 use Rattle.tinyboot_c.specs.declared.answer.Said.{Said}
 use Rattle.tinyboot_c.specs.Layout.{setupFrom, holdsState, stateFrom, numberBytes, partBytes, stateBytes, answerBytes}
 use Rattle.tinyboot_c.specs.Calls
+use Rattle.tinyboot_c.specs.Inner.{toldBy}
 
 yes : {A : Type 0} (t : Bool) (a b : A) → t ≡ true → a ≡ pick t a b
 yes t a b e = ap (λ (u : Bool). pick u a b) (sym e)
@@ -25,7 +26,7 @@ no : {A : Type 0} (t : Bool) (a b : A) → t ≡ false → b ≡ pick t a b
 no t a b e = ap (λ (u : Bool). pick u a b) (sym e)
 
 -- the code's numbers are an answer's, where each is
-pub told-by : (s : Said) (t : Told) → s .number ≡ t .number → s .len ≡ t .len → s .wait ≡ t .wait → s .mode ≡ t .mode → Calls.toldBy s ≡ t
+pub told-by : (s : Said) (t : Told) → s .number ≡ t .number → s .len ≡ t .len → s .wait ≡ t .wait → s .mode ≡ t .mode → toldBy s ≡ t
 told-by s t n l w m = rw (n, l, w, m) refl
 
 -- an answer in its buffer
@@ -57,16 +58,16 @@ module _ (setup state bytes flash meta reply answer : List ℕ) where
   abbrev whole : Calls.AfterFeed
   whole = Calls.cFed setup state bytes flash meta reply answer
 
-  pub feed-no-setup : (length setup ≡ 31 → ⊥) → kept 10 ≡ whole
+  pub feed-no-setup : eqb (length setup) 31 ≡ false → kept 10 ≡ whole
   unfolding Calls.cFed
   feed-no-setup h =
-      no (eqb (length setup) 31) (pick (holdsState state) (pick (ltb (length answer) 16) short called) (kept 11)) (kept 10) (ne-eqb (length setup) 31 h)
+      no (eqb (length setup) 31) (pick (holdsState state) (pick (ltb (length answer) 16) short called) (kept 11)) (kept 10) h
 
-  module _ (h : length setup ≡ 31) where
+  module _ (h : eqb (length setup) 31 ≡ true) where
     held : (x : Calls.AfterFeed) → x ≡ pick (holdsState state) (pick (ltb (length answer) 16) short called) (kept 11) → x ≡ whole
     unfolding Calls.cFed
     held x e =
-        e ∙ yes (eqb (length setup) 31) (pick (holdsState state) (pick (ltb (length answer) 16) short called) (kept 11)) (kept 10) (eq-eqb (length setup) 31 h)
+        e ∙ yes (eqb (length setup) 31) (pick (holdsState state) (pick (ltb (length answer) 16) short called) (kept 11)) (kept 10) h
 
     pub feed-no-state : holdsState state ≡ false → kept 11 ≡ whole
     feed-no-state k = held (kept 11) (no (holdsState state) (pick (ltb (length answer) 16) short called) (kept 11) k)
@@ -140,16 +141,16 @@ module _ (mode : ℕ) (setup state flash meta answer : List ℕ) where
   abbrev all : Calls.AfterStart
   all = Calls.cStarted mode setup state flash meta answer
 
-  pub start-no-setup : (length setup ≡ 31 → ⊥) → unstarted 10 ≡ all
+  pub start-no-setup : eqb (length setup) 31 ≡ false → unstarted 10 ≡ all
   unfolding Calls.cStarted
   start-no-setup h =
-      no (eqb (length setup) 31) (pick (eqb (length state) 136) (pick (ltb (length answer) 16) unanswered begun) (unstarted 11)) (unstarted 10) (ne-eqb (length setup) 31 h)
+      no (eqb (length setup) 31) (pick (eqb (length state) 136) (pick (ltb (length answer) 16) unanswered begun) (unstarted 11)) (unstarted 10) h
 
-  module _ (h : length setup ≡ 31) where
+  module _ (h : eqb (length setup) 31 ≡ true) where
     sized : (x : Calls.AfterStart) → x ≡ pick (eqb (length state) 136) (pick (ltb (length answer) 16) unanswered begun) (unstarted 11) → x ≡ all
     unfolding Calls.cStarted
     sized x e =
-        e ∙ yes (eqb (length setup) 31) (pick (eqb (length state) 136) (pick (ltb (length answer) 16) unanswered begun) (unstarted 11)) (unstarted 10) (eq-eqb (length setup) 31 h)
+        e ∙ yes (eqb (length setup) 31) (pick (eqb (length state) 136) (pick (ltb (length answer) 16) unanswered begun) (unstarted 11)) (unstarted 10) h
 
     pub start-no-state : (length state ≡ 136 → ⊥) → unstarted 11 ≡ all
     start-no-state k = sized (unstarted 11) (no (eqb (length state) 136) (pick (ltb (length answer) 16) unanswered begun) (unstarted 11) (ne-eqb (length state) 136 k))

@@ -4,3 +4,4 @@ mod Laying
 mod Cases
 pub mod Round
 mod Placing
+pub mod Single

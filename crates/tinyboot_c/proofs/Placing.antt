@@ -13,6 +13,7 @@ use Rattle.in_place.specs.On.{restIn, CalledOn, calledOn, onBy}
 use Rattle.tinyboot_c.specs.declared.answer.Said.{Said}
 use Rattle.tinyboot_c.specs.Layout.{numberBytes, partBytes, answerBytes}
 use Rattle.tinyboot_c.specs.Calls
+use Rattle.tinyboot_c.specs.Inner.{toldBy}
 use Rattle.tinyboot_c.proofs.Laying.{laid-next}
 
 -- n takes the place of the last 8 of 136 bytes
@@ -40,9 +41,9 @@ module _ (answer : List ℕ) where
   -- s is the state's bytes before the call, t after it; u those with their numbers
   pub fed-placed : (p : Passed) (s t flash meta reply : List ℕ) (x : Called) → length s ≡ 136 → length t ≡ 136 →
       calledOn p t flash meta reply ≡ onBy (restIn 52 64 s) x →
-      (said : Said) → Calls.toldBy said ≡ toldOf (p .answer) → (r : ℕ) → r ≡ said .number →
+      (said : Said) → toldBy said ≡ toldOf (p .answer) → (r : ℕ) → r ≡ said .number →
       (u : List ℕ) → u ≡ paste t 128 (numberBytes (p .got) (p .fill) (p .next) (p .selected) (p .closed)) 8 →
-      (a : List ℕ) → a ≡ over (answerBytes (Calls.toldBy said) (p .taken)) answer →
+      (a : List ℕ) → a ≡ over (answerBytes (toldBy said) (p .taken)) answer →
       Calls.afterFeed r u flash meta reply a ≡ Calls.feedCalled x answer
   fed-placed p s t flash meta reply x ls lt e said k r kr u ku a ka =
       let n : r ≡ toldOf (p .answer) .number = kr ∙ ap (λ (v : Told). v .number) k in

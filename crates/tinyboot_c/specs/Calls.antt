@@ -13,12 +13,7 @@ use Rattle.device.specs.Refusals.{refusalOf}
 use Rattle.device.specs.Starts.{Left, newState, startRefusal, startedOf}
 use Rattle.dispatcher.specs.Answers.{Told, mute}
 use Rattle.feed.specs.Feed.{Called, fedOf}
-use Rattle.tinyboot_c.specs.declared.answer.Said.{Said}
 use Rattle.tinyboot_c.specs.Layout.{setupSize, stateSize, answerSize, setupFrom, holdsState, stateFrom, stateBytes, answerBytes}
-
--- the code's numbers of an answer
-abbrev pub toldBy : Said → Told
-toldBy s = record { number = s .number; len = s .len; wait = s .wait; mode = s .mode }
 
 -- an answer in its buffer: the first 16 bytes; a buffer that has fewer stays as it is
 abbrev pub answered : Told → ℕ → List ℕ → List ℕ

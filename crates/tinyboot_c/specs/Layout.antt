@@ -10,7 +10,6 @@ use Rattle.device.specs.declared.Setup.{Setup}
 use Rattle.device.specs.declared.State.{State}
 use Rattle.dispatcher.specs.Answers.{Told}
 use Rattle.feed.specs.Feed.{stateWith}
-use Rattle.tinyboot_c.specs.declared.state.Numbers.{Numbers}
 
 -- so many bytes from a place on
 abbrev pub part : ℕ → ℕ → List ℕ → List ℕ
@@ -50,11 +49,6 @@ holdsState l = eqb (length l) stateSize && (ltb (getD l 134 0) 2 && ltb (getD l 
 abbrev pub stateFrom : List ℕ → State
 stateFrom l =
     stateWith (part 0 64 l) (getD l 132 0) (part 64 64 l) (getD l 133 0) (lowFirst (part 128 4 l)) (eqb (getD l 134 0) 1) (eqb (getD l 135 0) 1)
-
--- the numbers alone, as the code has them
-abbrev pub numbersFrom : List ℕ → Numbers
-numbersFrom l =
-    record { got = getD l 132 0; fill = getD l 133 0; next = lowFirst (part 128 4 l); selected = eqb (getD l 134 0) 1; closed = eqb (getD l 135 0) 1 }
 
 -- a state's numbers, in 8 bytes: of got and fill the low byte, which in a well-formed state is all of them
 abbrev pub numberBytes : ℕ → ℕ → ℕ → Bool → Bool → List ℕ

@@ -11,7 +11,8 @@ ghost use Rattle.tinyboot_protocol.specs.Names.{modeNumber};
 ghost use Rattle.device.specs.Refusals.{refusalNumber};
 ghost use Rattle.dispatcher.specs.Answers.{mute, toldOf};
 ghost use Rattle.tinyboot_c.specs.Layout.{answerBytes};
-ghost use Rattle.tinyboot_c.specs.Calls.{toldBy, answered, startTold};
+ghost use Rattle.tinyboot_c.specs.Calls.{answered, startTold};
+ghost use Rattle.tinyboot_c.specs.Inner.{toldBy};
 
 pub struct Said {
     pub number: u8,
@@ -20,7 +21,7 @@ pub struct Said {
     pub wait: usize,
 }
 
-fn unsaid(number: u8) -> Said
+pub(crate) fn unsaid(number: u8) -> Said
     ensures { λ r. ⌜ (r .number ≡ number) × (r .len ≡ 0) × (r .wait ≡ 0) × (r .mode ≡ 1) ⌝ }
 {
     Said {

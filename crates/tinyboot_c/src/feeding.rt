@@ -2,18 +2,25 @@
 use crate::answer::lay_answer;
 use crate::answer::numbers_of;
 use crate::answer::refusal_number;
+use crate::answer::unsaid;
+use crate::layout::four;
+use crate::layout::setup_from;
+use crate::layout::wide;
 use crate::state::fetch;
 use crate::state::lay_numbers;
 use crate::state::numbers_from;
 use device::Setup;
 use device::refusal::refuses;
+use in_place::byte_on;
 use in_place::feed_on;
 ghost use mathlib.Core.Path.{_≡_};
 ghost use Prim.Native.Nat.{_≤_};
 ghost use lib.ListN.{length};
 ghost use Rattle.feed.specs.Feed.{fedOf};
-ghost use Rattle.tinyboot_c.specs.Layout.{stateFrom};
+ghost use Rattle.tinyboot_c.specs.Layout.{setupFrom, holdsState, stateFrom};
 ghost use Rattle.tinyboot_c.specs.Calls.{roomless, afterFeed, feedCalled};
+ghost use Rattle.tinyboot_c.specs.Inner.{ByteFed};
+ghost use mathlib.Core.Bool.{true};
 
 // With no room for an answer: as if there were none for a reply.
 pub(crate) fn unanswered(setup: Setup, state: &[u8], flash: usize, meta: usize) -> u8
@@ -26,7 +33,48 @@ pub(crate) fn unanswered(setup: Setup, state: &[u8], flash: usize, meta: usize) 
     refusal_number(refuses(setup, &f, n.got, n.fill, n.next, n.closed, flash, meta, 0))
 }
 
-pub(crate) fn fed(
+// A piece of one byte that is only stored, and whether it is: with most bytes there is nothing else to do.
+fn fed_byte(
+    setup: &[u8],
+    state: &mut [u8],
+    bytes: &[u8],
+    flash: usize,
+    meta: usize,
+    room: usize,
+) -> bool
+    requires { ⌜ length (now setup) ≡ 31 ⌝ }
+    requires { ⌜ holdsState (now state) ≡ true ⌝ }
+    ensures { λ r. ⌜ ByteFed (now (setup .entry)) (now (state .entry)) (now (bytes .entry)) flash meta room (now (state .exit)) r ⌝ }
+{
+    if bytes.len() != 1 {
+        return false;
+    }
+    let n = numbers_from(state);
+    let erase = four(setup, 0) as usize;
+    let capacity = four(setup, 4) as usize;
+    let id_len = wide(setup[8]);
+    if byte_on(
+        erase,
+        capacity,
+        id_len,
+        n.got,
+        n.fill,
+        n.next,
+        n.closed,
+        state,
+        bytes[0],
+        flash,
+        meta,
+        room,
+    ) {
+        state[132] = (n.got + 1) as u8;
+        return true;
+    }
+    false
+}
+
+// Any bytes.
+fn fed_piece(
     setup: Setup,
     state: &mut [u8],
     bytes: &[u8],
@@ -57,4 +105,26 @@ pub(crate) fn fed(
     lay_numbers(state, p.got, p.fill, p.next, p.selected, p.closed);
     let told = p.answer;
     lay_answer(answer, numbers_of(told), p.taken)
+}
+
+pub(crate) fn fed(
+    setup: &[u8],
+    state: &mut [u8],
+    bytes: &[u8],
+    flash: &mut [u8],
+    meta: &mut [u8],
+    reply: &mut [u8],
+    answer: &mut [u8],
+) -> u8
+    requires { ⌜ length (now setup) ≡ 31 ⌝ }
+    requires { ⌜ holdsState (now state) ≡ true ⌝ }
+    requires { ⌜ 16 ≤ length (now answer) ⌝ }
+    ensures { λ r. ⌜ afterFeed r (now (state .exit)) (now (flash .exit)) (now (meta .exit)) (now (reply .exit)) (now (answer .exit)) ≡
+        feedCalled (fedOf 52 64 (setupFrom (now (setup .entry))) (stateFrom (now (state .entry))) (now (bytes .entry)) (now (flash .entry)) (now (meta .entry)) (now (reply .entry))) (now (answer .entry)) ⌝ }
+{
+    if fed_byte(setup, state, bytes, flash.len(), meta.len(), reply.len()) {
+        return lay_answer(answer, unsaid(0), 1);
+    }
+    let s = setup_from(setup);
+    fed_piece(s, state, bytes, flash, meta, reply, answer)
 }

@@ -6,6 +6,7 @@ mod starting;
 mod state;
 
 use crate::answer::refuse;
+use crate::layout::holds_setup;
 use crate::layout::setup_from;
 use crate::state::holds_state;
 use crate::state::lay_state;
@@ -59,15 +60,15 @@ pub extern "C" fn tinyboot_feed(
     ensures { λ r. ⌜ afterFeed r (now (state .exit)) (now (flash .exit)) (now (meta .exit)) (now (reply .exit)) (now (answer .exit)) ≡
         cFed (now (setup .entry)) (now (state .entry)) (now (bytes .entry)) (now (flash .entry)) (now (meta .entry)) (now (reply .entry)) (now (answer .entry)) ⌝ }
 {
-    if setup.len() != 31 {
+    if !holds_setup(setup) {
         return refuse(answer, 10);
     }
-    let s = setup_from(setup);
     if holds_state(state) {
         if answer.len() < 16 {
+            let s = setup_from(setup);
             return feeding::unanswered(s, state, flash.len(), meta.len());
         }
-        return feeding::fed(s, state, bytes, flash, meta, reply, answer);
+        return feeding::fed(setup, state, bytes, flash, meta, reply, answer);
     }
     refuse(answer, 11)
 }
@@ -85,7 +86,7 @@ pub extern "C" fn tinyboot_start(
     ensures { λ r. ⌜ afterStart r (now (state .exit)) (now (meta .exit)) (now (answer .exit)) ≡
         cStarted mode (now (setup .entry)) (now (state .entry)) (now (flash .entry)) (now (meta .entry)) (now (answer .entry)) ⌝ }
 {
-    if setup.len() != 31 {
+    if !holds_setup(setup) {
         return refuse(answer, 10);
     }
     if state.len() != 136 {

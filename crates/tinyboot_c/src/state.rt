@@ -7,7 +7,8 @@ ghost use mathlib.Core.Path.{_≡_};
 ghost use Prim.Native.Nat.{_≤_, _+_};
 ghost use lib.ListN.{length};
 ghost use lib.Seq.{paste};
-ghost use Rattle.tinyboot_c.specs.Layout.{part, holdsState, numbersFrom, flagByte, numberBytes, partBytes, stateBytes};
+ghost use Rattle.tinyboot_c.specs.Layout.{part, holdsState, flagByte, numberBytes, partBytes, stateBytes};
+ghost use Rattle.tinyboot_c.specs.Inner.{numbersFrom};
 
 // What a state has beside its arrays.
 pub struct Numbers {

@@ -1,10 +1,14 @@
 use mathlib.Core.Path.{sym, _∙_}
+use borrow.Author.Tests.{eqb-true, not-true, not-false}
 use Rattle.tinyboot_c.proofs.Holding.{holds-size}
 use Rattle.tinyboot_c.proofs.Cases.{feed-no-setup, feed-no-state, feed-short, feed-called}
 use native.Mathlib.Omega.{arith}
 use borrow.Author.Needs.{needs}
 use Rattle.tinyboot_c.proofs.tinyboot_feed.Statement.{statement}
 use Rattle.tinyboot_c.proofs.tinyboot_feed.Tie as tie
+
+holds-setup-requires : tie.Need-holds-setup-requires
+holds-setup-requires c κs = search needs
 
 refuse-requires : tie.Need-refuse-requires
 refuse-requires c κs = search needs
@@ -13,26 +17,33 @@ same-length : tie.Need-same-length
 same-length c = search needs
 
 returns : tie.Need-returns
-returns c = let e = c .before .before .refuse .ensures in rw (e .0, e .1) (feed-no-setup (c .before .before .before .before .before .before .before .before .before .before .before .before .args .setup .now) (c .before .before .before .before .before .before .before .before .before .before .before .before .args .state .now) (c .before .before .before .before .before .before .before .before .before .before .before .before .args .bytes .now) (c .before .before .before .before .before .before .before .before .before .before .before .before .args .flash .now) (c .before .before .before .before .before .before .before .before .before .before .before .before .args .meta .now) (c .before .before .before .before .before .before .before .before .before .before .before .before .args .reply .now) (c .before .before .before .before .before .before .before .before .before .before .before .before .args .answer .now) (c .before .before .before .before .if1 .taken))
-
-setup-from-requires : tie.Need-setup-from-requires
-setup-from-requires c κs = search needs
+returns c =
+    let a = c .before .before .before .before .before .before .before .before .before .before .before .before .before .args in
+    let e = c .before .before .refuse .ensures in
+    rw (e .0, e .1) (feed-no-setup (a .setup .now) (a .state .now) (a .bytes .now) (a .flash .now) (a .meta .now) (a .reply .now) (a .answer .now) (sym (c .before .before .before .before .before .holds-setup .ensures) ∙ not-true _ (c .before .before .before .before .if1 .taken)))
 
 holds-state-requires : tie.Need-holds-state-requires
 holds-state-requires c κs = search needs
 
+setup-from-requires : tie.Need-setup-from-requires
+setup-from-requires c κs =
+    eqb-true _ 31 (sym (c .before .before .before .before .before .holds-setup .ensures) ∙ not-false _ (c .before .before .before .before .if1 .left))
+
 unanswered-requires : tie.Need-unanswered-requires
-unanswered-requires c κs = holds-size (c .before .before .before .before .before .before .before .before .before .before .before .before .before .before .args .state .now) (sym (c .before .before .before .holds-state .ensures) ∙ c .before .before .if2 .taken)
+unanswered-requires c κs =
+    holds-size (c .before .before .before .before .before .before .before .before .before .before .before .before .before .before .before .args .state .now) (sym (c .before .before .before .before .holds-state .ensures) ∙ c .before .before .before .if2 .taken)
 
 same-length-2 : tie.Need-same-length-2
 same-length-2 c = search needs
 
 returns-2 : tie.Need-returns-2
 returns-2 c =
-    feed-short (c .before .before .before .before .before .before .before .before .before .before .before .before .before .before .before .args .setup .now) (c .before .before .before .before .before .before .before .before .before .before .before .before .before .before .before .args .state .now) (c .before .before .before .before .before .before .before .before .before .before .before .before .before .before .before .args .bytes .now) (c .before .before .before .before .before .before .before .before .before .before .before .before .before .before .before .args .flash .now) (c .before .before .before .before .before .before .before .before .before .before .before .before .before .before .before .args .meta .now) (c .before .before .before .before .before .before .before .before .before .before .before .before .before .before .before .args .reply .now) (c .before .before .before .before .before .before .before .before .before .before .before .before .before .before .before .args .answer .now) (c .before .before .before .before .before .before .before .if1 .left) (sym (c .before .before .before .before .holds-state .ensures) ∙ c .before .before .before .if2 .taken) (c .before .before .if3 .taken) _ (rw (c .before .before .before .before .before .before .setup-from .ensures) at (c .unanswered .ensures))
+    let a = c .before .before .before .before .before .before .before .before .before .before .before .before .before .before .before .before .args in
+    feed-short (a .setup .now) (a .state .now) (a .bytes .now) (a .flash .now) (a .meta .now) (a .reply .now) (a .answer .now) (sym (c .before .before .before .before .before .before .before .before .holds-setup .ensures) ∙ not-false _ (c .before .before .before .before .before .before .before .if1 .left)) (sym (c .before .before .before .before .before .holds-state .ensures) ∙ c .before .before .before .before .if2 .taken) (c .before .before .before .if3 .taken) _ (rw (c .before .before .setup-from .ensures) at (c .unanswered .ensures))
 
 fed-requires : tie.Need-fed-requires
-fed-requires c κs = (holds-size (c .before .before .before .before .before .before .before .before .before .before .before .before .before .before .before .before .before .before .args .state .now) (sym (c .before .before .before .before .before .before .before .holds-state .ensures) ∙ c .before .before .before .before .before .before .if2 .taken), c .before .before .before .before .before .if3 .left)
+fed-requires c κs =
+    (eqb-true _ 31 (sym (c .before .before .before .before .before .before .before .before .before .before .holds-setup .ensures) ∙ not-false _ (c .before .before .before .before .before .before .before .before .before .if1 .left)), ((sym (c .before .before .before .before .before .before .before .holds-state .ensures) ∙ c .before .before .before .before .before .before .if2 .taken), c .before .before .before .before .before .if3 .left))
 
 same-length-3 : tie.Need-same-length-3
 same-length-3 c = search needs
@@ -51,7 +62,8 @@ same-length-7 c = search needs
 
 returns-3 : tie.Need-returns-3
 returns-3 c =
-    feed-called (c .before .before .before .before .before .before .before .before .before .before .before .before .before .before .before .before .before .before .before .before .before .before .before .before .before .before .before .before .before .args .setup .now) (c .before .before .before .before .before .before .before .before .before .before .before .before .before .before .before .before .before .before .before .before .before .before .before .before .before .before .before .before .before .args .state .now) (c .before .before .before .before .before .before .before .before .before .before .before .before .before .before .before .before .before .before .before .before .before .before .before .before .before .before .before .before .before .args .bytes .now) (c .before .before .before .before .before .before .before .before .before .before .before .before .before .before .before .before .before .before .before .before .before .before .before .before .before .before .before .before .before .args .flash .now) (c .before .before .before .before .before .before .before .before .before .before .before .before .before .before .before .before .before .before .before .before .before .before .before .before .before .before .before .before .before .args .meta .now) (c .before .before .before .before .before .before .before .before .before .before .before .before .before .before .before .before .before .before .before .before .before .before .before .before .before .before .before .before .before .args .reply .now) (c .before .before .before .before .before .before .before .before .before .before .before .before .before .before .before .before .before .before .before .before .before .before .before .before .before .before .before .before .before .args .answer .now) (c .before .before .before .before .before .before .before .before .before .before .before .before .before .before .before .before .before .before .before .before .before .if1 .left) (sym (c .before .before .before .before .before .before .before .before .before .before .before .before .before .before .before .before .before .before .holds-state .ensures) ∙ c .before .before .before .before .before .before .before .before .before .before .before .before .before .before .before .before .before .if2 .taken) (c .before .before .before .before .before .before .before .before .before .before .before .before .before .before .before .before .if3 .left) _ (rw (c .before .before .before .before .before .before .before .before .before .before .before .before .before .before .before .before .before .before .before .before .setup-from .ensures) at (c .before .before .before .before .before .before .before .before .before .before .fed .ensures))
+    let a = c .before .before .before .before .before .before .before .before .before .before .before .before .before .before .before .before .before .before .before .before .before .before .before .before .before .before .before .before .before .args in
+    feed-called (a .setup .now) (a .state .now) (a .bytes .now) (a .flash .now) (a .meta .now) (a .reply .now) (a .answer .now) (sym (c .before .before .before .before .before .before .before .before .before .before .before .before .before .before .before .before .before .before .before .before .before .holds-setup .ensures) ∙ not-false _ (c .before .before .before .before .before .before .before .before .before .before .before .before .before .before .before .before .before .before .before .before .if1 .left)) (sym (c .before .before .before .before .before .before .before .before .before .before .before .before .before .before .before .before .before .before .holds-state .ensures) ∙ c .before .before .before .before .before .before .before .before .before .before .before .before .before .before .before .before .before .if2 .taken) (c .before .before .before .before .before .before .before .before .before .before .before .before .before .before .before .before .if3 .left) _ (c .before .before .before .before .before .before .before .before .before .before .fed .ensures)
 
 refuse-requires-2 : tie.Need-refuse-requires-2
 refuse-requires-2 c κs = search needs
@@ -63,17 +75,21 @@ same-length-9 : tie.Need-same-length-9
 same-length-9 c = search needs
 
 returns-4 : tie.Need-returns-4
-returns-4 c = let e = c .before .before .refuse2 .ensures in rw (e .0, e .1) (feed-no-state (c .before .before .before .before .before .before .before .before .before .before .before .before .before .before .before .before .args .setup .now) (c .before .before .before .before .before .before .before .before .before .before .before .before .before .before .before .before .args .state .now) (c .before .before .before .before .before .before .before .before .before .before .before .before .before .before .before .before .args .bytes .now) (c .before .before .before .before .before .before .before .before .before .before .before .before .before .before .before .before .args .flash .now) (c .before .before .before .before .before .before .before .before .before .before .before .before .before .before .before .before .args .meta .now) (c .before .before .before .before .before .before .before .before .before .before .before .before .before .before .before .before .args .reply .now) (c .before .before .before .before .before .before .before .before .before .before .before .before .before .before .before .before .args .answer .now) (c .before .before .before .before .before .before .before .before .if1 .left) (sym (c .before .before .before .before .before .holds-state .ensures) ∙ c .before .before .before .before .if2 .left))
+returns-4 c =
+    let a = c .before .before .before .before .before .before .before .before .before .before .before .before .before .before .before .before .args in
+    let e = c .before .before .refuse2 .ensures in
+    rw (e .0, e .1) (feed-no-state (a .setup .now) (a .state .now) (a .bytes .now) (a .flash .now) (a .meta .now) (a .reply .now) (a .answer .now) (sym (c .before .before .before .before .before .before .before .before .holds-setup .ensures) ∙ not-false _ (c .before .before .before .before .before .before .before .if1 .left)) (sym (c .before .before .before .before .before .holds-state .ensures) ∙ c .before .before .before .before .if2 .left))
 
 pub tinyboot-feed-spec : {M : Type 1} → statement M
 tinyboot-feed-spec =
     tie.close
     (tie.spec
+    holds-setup-requires
     refuse-requires
     same-length
     returns
-    setup-from-requires
     holds-state-requires
+    setup-from-requires
     unanswered-requires
     same-length-2
     returns-2

@@ -1,37 +1,46 @@
-use Prim.Native.Nat.{_≤_}
-use mathlib.Core.Path.{_≡_, sym, _∙_}
-use native.Mathlib.Omega.{arith}
+use mathlib.Core.Path.{_≡_, refl, ap, _∙_}
 use lib.ListN.{length}
-use Rattle.dispatcher.specs.Answers.{toldOf}
-use Rattle.in_place.proofs.Placed.{on-long}
-use Rattle.feed.specs.Feed.{Called, fedOf}
-use Rattle.tinyboot_c.specs.Layout.{stateFrom}
+use Rattle.dispatcher.specs.Answers.{mute}
 use Rattle.tinyboot_c.proofs.Cases.{told-by}
-use Rattle.tinyboot_c.proofs.Placing.{fed-placed}
+use Rattle.tinyboot_c.proofs.Holding.{holds-size}
+use Rattle.tinyboot_c.proofs.Single.{byte-answered}
+use native.Mathlib.Omega.{arith}
 use borrow.Author.Needs.{needs}
 use Rattle.tinyboot_c.proofs.feeding.fed.Statement.{statement}
 use Rattle.tinyboot_c.proofs.feeding.fed.Tie as tie
 
-numbers-from-requires : tie.Need-numbers-from-requires
-numbers-from-requires c κs = search needs
+fed-byte-requires : tie.Need-fed-byte-requires
+fed-byte-requires c κs = search needs
 
-feed-on-requires : tie.Need-feed-on-requires
-feed-on-requires c κs = search needs
-
-lay-numbers-requires : tie.Need-lay-numbers-requires
-lay-numbers-requires c κs = search needs
-
-numbers-of-requires : tie.Need-numbers-of-requires
-numbers-of-requires c κs = search needs
+unsaid-requires : tie.Need-unsaid-requires
+unsaid-requires c κs = search needs
 
 lay-answer-requires : tie.Need-lay-answer-requires
-lay-answer-requires c κs = c .before .before .before .before .before .before .before .before .before .before .before .before .before .before .before .before .before .before .before .before .before .before .before .before .before .before .before .pre .1
+lay-answer-requires c κs = search needs
 
 same-length : tie.Need-same-length
 same-length c = search needs
 
 same-length-2 : tie.Need-same-length-2
 same-length-2 c = search needs
+
+returns : tie.Need-returns
+returns c =
+    let a = c .before .before .before .before .before .before .before .before .before .before .before .before .before .before .before .before .before .args in
+    let u = c .before .before .before .unsaid .ensures in
+    let v = c .before .before .lay-answer .ensures in
+    let e = rw (c .before .before .before .before .before .if1 .taken) at (c .before .before .before .before .before .before .before .before .fed-byte .ensures) in
+    byte-answered (c .before .before .before .unsaid .result) (told-by (c .before .before .before .unsaid .result) (mute 0) (u .0) (u .1) (u .2) (u .3)) _ (v .0) _ (a .flash .now) (a .meta .now) (a .reply .now) (a .answer .now) _ (v .1) _
+    (e (a .flash .now) (a .meta .now) (a .reply .now) (a .answer .now) refl refl refl)
+
+setup-from-requires : tie.Need-setup-from-requires
+setup-from-requires c κs = search needs
+
+fed-piece-requires : tie.Need-fed-piece-requires
+fed-piece-requires c κs =
+    let e = rw (c .before .before .before .before .before .before .if1 .left) at (c .before .before .before .before .before .before .before .before .before .fed-byte .ensures) in
+    let l : length (c .before .before .before .before .before .before .before .before .before .before .before .before .before .before .before .before .before .before .args .state .now) ≡ 136 = holds-size (c .before .before .before .before .before .before .before .before .before .before .before .before .before .before .before .before .before .before .args .state .now) (c .before .before .before .before .before .before .before .before .before .before .before .before .before .before .before .before .before .before .pre .1 .0) in
+    (ap length e ∙ l, c .before .before .before .before .before .before .before .before .before .before .before .before .before .before .before .before .before .before .pre .1 .1)
 
 same-length-3 : tie.Need-same-length-3
 same-length-3 c = search needs
@@ -42,32 +51,32 @@ same-length-4 c = search needs
 same-length-5 : tie.Need-same-length-5
 same-length-5 c = search needs
 
-returns : tie.Need-returns
-returns c =
-    let a = c .before .before .before .before .before .before .before .before .before .before .before .before .before .before .before .before .before .before .before .before .before .before .before .before .before .before .before .before .before .before .args in
-    let p = c .before .before .before .before .before .before .before .before .before .before .before .before .before .before .before .before .before .feed-on .result in
-    let ls : length (a .state .now) ≡ 136 = c .before .before .before .before .before .before .before .before .before .before .before .before .before .before .before .before .before .before .before .before .before .before .before .before .before .before .before .before .before .before .pre .0 in
-    let h : 128 ≤ length (a .state .now) = omega arith in
-    let n = c .before .before .before .before .before .before .before .before .before .before .before .before .before .before .before .before .before .before .before .before .before .before .numbers-from .ensures in
-    let e = rw (n) at (c .before .before .before .before .before .before .before .before .before .before .before .before .before .before .before .before .before .feed-on .ensures) in
-    let x : Called = fedOf 52 64 (a .setup) (stateFrom (a .state .now)) (a .bytes .now) (a .flash .now) (a .meta .now) (a .reply .now) in
-    let u = c .before .before .before .numbers-of .ensures in
-    let v = c .before .before .lay-answer .ensures in
-    fed-placed (a .answer .now) p (a .state .now) _ _ _ _ x ls (lay-numbers-requires (c .before .before .before .before .before .before .before .before) (c .before .before .before .before .before .before .before .lay-numbers .lifetimes)) (e ∙ sym (on-long _ _ _ _ _ _ _ _ _ _ _ h))
-    _ (told-by _ (toldOf (p .answer)) (u .0) (u .1) (u .2) (u .3)) _ (v .0) _ (c .before .before .before .before .before .before .before .lay-numbers .ensures) _ (v .1)
+same-length-6 : tie.Need-same-length-6
+same-length-6 c = search needs
+
+same-length-7 : tie.Need-same-length-7
+same-length-7 c = search needs
+
+returns-2 : tie.Need-returns-2
+returns-2 c =
+    let e = rw (c .before .before .before .before .before .before .before .before .before .before .before .before .before .before .before .before .before .if1 .left) at (c .before .before .before .before .before .before .before .before .before .before .before .before .before .before .before .before .before .before .before .before .fed-byte .ensures) in
+    rw (c .before .before .before .before .before .before .before .before .before .before .before .before .before .before .before .before .setup-from .ensures, e) at (c .before .before .before .before .before .before .before .before .before .before .fed-piece .ensures)
 
 pub fed-spec : {M : Type 1} → statement M
 fed-spec =
     tie.close
     (tie.spec
-    numbers-from-requires
-    feed-on-requires
-    lay-numbers-requires
-    numbers-of-requires
+    fed-byte-requires
+    unsaid-requires
     lay-answer-requires
     same-length
     same-length-2
+    returns
+    setup-from-requires
+    fed-piece-requires
     same-length-3
     same-length-4
     same-length-5
-    returns)
+    same-length-6
+    same-length-7
+    returns-2)

@@ -1,0 +1,142 @@
+-- One byte that is only stored: the state's bytes after it.
+use Prim.Native.Nat.{ℕ, zero, suc, _+_, _%_, _<_}
+use mathlib.Core.Path.{_≡_, refl, ap, sym, _∙_}
+use mathlib.Core.Bool.{Bool, true}
+use mathlib.Core.List.{List, [], _∷_, _++_, append-assoc}
+use native.Mathlib.Nat.{mod-eq-of-lt}
+use native.Mathlib.Omega.{arith}
+use lib.ListN.{length, getD, take, drop, set, length-append, length-set, length-drop}
+use lib.Seq.{set-at, set-append-left, take-at, drop-at, length-take-le}
+use lib.Dec.{eqb}
+use Rattle.laws.specs.Low.{lowFirst, lowBytes}
+use Rattle.laws.specs.Over.{over}
+use Rattle.device.specs.declared.Setup.{Setup}
+use Rattle.device.specs.declared.State.{State}
+use Rattle.dispatcher.specs.Answers.{Told, mute}
+use Rattle.feed.specs.Feed.{Called, stateWith, fedOf}
+use Rattle.in_place.specs.On.{stateIn}
+use Rattle.in_place.specs.Byte.{laidTo, byteOn}
+use Rattle.in_place.proofs.Quick.{byte-laid, byte-within, byte-fed}
+use Rattle.tinyboot_c.specs.Layout.{part, setupFrom, holdsState, stateFrom, flagByte, numberBytes, partBytes, stateBytes, answerBytes}
+use Rattle.tinyboot_c.specs.Calls.{AfterFeed, afterFeed, feedCalled}
+use Rattle.tinyboot_c.specs.Inner.{numbersFrom, toldBy, ByteFed}
+use Rattle.tinyboot_c.specs.declared.answer.Said.{Said}
+use Rattle.tinyboot_c.specs.declared.state.Numbers.{Numbers}
+use Rattle.tinyboot_c.proofs.Holding.{holds-size}
+use Rattle.tinyboot_c.proofs.Round.{read-written}
+
+-- in three parts: the byte at g of the first, and the count in the last
+module _ (f p : List ℕ) (lf : length f ≡ 64) (lp : length p ≡ 64) (got fill next : ℕ) (selected closed : Bool) (g b : ℕ) (h : g < 64) where
+  abbrev low : List ℕ
+  low = lowBytes 4 next
+
+  abbrev rest : List ℕ
+  rest = fill % 256 ∷ flagByte selected ∷ flagByte closed ∷ []
+
+  stored : set (partBytes f p (numberBytes got fill next selected closed)) g b ≡ partBytes (set f g b) p (numberBytes got fill next selected closed)
+  stored = set-append-left f (p ++ numberBytes got fill next selected closed) g b (rw lf h)
+
+  apart : (x : ℕ) (d : List ℕ) → d ++ (p ++ (low ++ (x ∷ rest))) ≡ (d ++ (p ++ low)) ++ (x ∷ rest)
+  apart x d =
+      ap (λ (v : List ℕ). d ++ v) (sym (append-assoc p low (x ∷ rest))) ∙ sym (append-assoc d (p ++ low) (x ∷ rest))
+
+  pub counted : (n : ℕ) → n < 256 →
+      set (set (partBytes f p (numberBytes got fill next selected closed)) g b) 132 n ≡ partBytes (set f g b) p (numberBytes n fill next selected closed)
+  counted n k =
+      let d : List ℕ = set f g b in
+      let ld : length d ≡ 64 = length-set f g b ∙ lf in
+      let long : length (d ++ (p ++ low)) ≡ 132 = simp (length-append) (omega (arith, ld, lp)) in
+      ap (λ (v : List ℕ). set v 132 n) (stored ∙ apart (got % 256) d) ∙
+      set-at (d ++ (p ++ low)) (got % 256) rest n 132 long ∙
+      sym (apart n d) ∙
+      ap (λ (v : ℕ). partBytes d p (low ++ (v ∷ rest))) (sym (mod-eq-of-lt k))
+
+-- what the code gave for the setup's and the state's numbers is what stands in their bytes
+pub byte-known : (setup state : List ℕ) (b flash meta room : ℕ) (r : Bool) (after : List ℕ) (erase capacity idLen : ℕ) (n : Numbers) →
+    laidTo r after ≡ byteOn 52 64 erase capacity idLen (n .got) (n .fill) (n .next) (n .closed) state b flash meta room →
+    erase ≡ lowFirst (part 0 4 setup) → capacity ≡ lowFirst (part 4 4 setup) → idLen ≡ getD setup 8 0 → n ≡ numbersFrom state → (t : Bool) → r ≡ t →
+    laidTo t after ≡ byteOn 52 64 (setupFrom setup .«erase_size») (setupFrom setup .capacity) (setupFrom setup .«id_len») (getD state 132 0) (getD state 133 0)
+    (lowFirst (part 128 4 state)) (eqb (getD state 135 0) 1) state b flash meta room
+byte-known setup state b flash meta room r after erase capacity idLen n e ke kc ki kn t w = rw (w, ke, kc, ki, kn) at e
+
+-- the answer to it
+pub byte-answered : (said : Said) → toldBy said ≡ mute 0 → (result : ℕ) → result ≡ said .number → (state f m r answer laid : List ℕ) →
+    laid ≡ over (answerBytes (toldBy said) 1) answer → (x : AfterFeed) → afterFeed 0 state f m r (over (answerBytes (mute 0) 1) answer) ≡ x →
+    afterFeed result state f m r laid ≡ x
+byte-answered said k result kr state f m r answer laid kl x e =
+    let z : result ≡ 0 = kr ∙ ap (λ (v : Told). v .number) k in
+    rw (z, kl, k) e
+
+module _ (setup state : List ℕ) (h : holdsState state ≡ true) (byte : (i : ℕ) → i < length state → getD state i 0 < 256) (b flash meta room : ℕ) (after : List ℕ)
+    (e : laidTo true after ≡ byteOn 52 64 (setupFrom setup .«erase_size») (setupFrom setup .capacity) (setupFrom setup .«id_len») (getD state 132 0)
+    (getD state 133 0) (lowFirst (part 128 4 state)) (eqb (getD state 135 0) 1) state b flash meta room) where
+  abbrev got : ℕ
+  got = getD state 132 0
+
+  abbrev fill : ℕ
+  fill = getD state 133 0
+
+  abbrev next : ℕ
+  next = lowFirst (part 128 4 state)
+
+  abbrev selected : Bool
+  selected = eqb (getD state 134 0) 1
+
+  abbrev closed : Bool
+  closed = eqb (getD state 135 0) 1
+
+  size : length state ≡ 136
+  size = holds-size state h
+
+  pub within : got < 64
+  within = byte-within (setupFrom setup) state got fill next selected closed b flash meta room after e
+
+  pub after-size : length after ≡ 136
+  after-size = ap length (byte-laid (setupFrom setup) state got fill next selected closed b flash meta room after e) ∙ length-set state got b ∙ size
+
+  -- the parts of the state before, and of the bytes after
+  abbrev f : List ℕ
+  f = part 0 64 state
+
+  abbrev p : List ℕ
+  p = part 64 64 state
+
+  lf : length f ≡ 64
+  lf = length-take-le 64 state (omega (arith, size))
+
+  lp : length p ≡ 64
+  lp = length-take-le 64 (drop 64 state) (omega (arith, length-drop 64 state, size))
+
+  whole : state ≡ partBytes f p (numberBytes got fill next selected closed)
+  whole = sym (read-written state h byte)
+
+  laid : after ≡ partBytes (set f got b) p (numberBytes got fill next selected closed)
+  laid =
+      byte-laid (setupFrom setup) state got fill next selected closed b flash meta room after e ∙
+      ap (λ (v : List ℕ). set v got b) whole ∙
+      stored f p lf lp got fill next selected closed got b within
+
+  frame-after : part 0 64 after ≡ set f got b
+  frame-after = ap (take 64) laid ∙ take-at (set f got b) (p ++ numberBytes got fill next selected closed) 64 (length-set f got b ∙ lf)
+
+  page-after : part 64 64 after ≡ p
+  page-after =
+      ap (λ (v : List ℕ). take 64 (drop 64 v)) laid ∙
+      ap (take 64) (drop-at (set f got b) (p ++ numberBytes got fill next selected closed) 64 (length-set f got b ∙ lf)) ∙
+      take-at p (numberBytes got fill next selected closed) 64 lp
+
+  written : set after 132 (got + 1) ≡ stateBytes (stateIn 52 64 after (got + 1) fill next selected closed)
+  written =
+      ap (λ (v : List ℕ). set v 132 (got + 1)) (byte-laid (setupFrom setup) state got fill next selected closed b flash meta room after e ∙ ap (λ (v : List ℕ). set v got b) whole) ∙
+      counted f p lf lp got fill next selected closed got b within (got + 1) (omega (arith, within)) ∙
+      (rw (frame-after, page-after) refl)
+
+  pub byte-stored : ByteFed setup state (b ∷ []) flash meta room (set after 132 (got + 1)) true
+  byte-stored fl me ro answer ef em er =
+      ap (λ (v : List ℕ). afterFeed 0 v fl me ro (over (answerBytes (mute 0) 1) answer)) written ∙
+      ap (λ (x : Called). feedCalled x answer) (byte-fed (setupFrom setup) state got fill next selected closed b flash meta room after e fl me ro ef em er)
+
+  pub piece-stored : (bytes : List ℕ) → length bytes ≡ 1 → b ≡ getD bytes 0 0 → ByteFed setup state bytes flash meta room (set after 132 (got + 1)) true
+  piece-stored [] k eb = absurd (omega arith)
+  piece-stored (a ∷ []) k eb = rw (← eb) byte-stored
+  piece-stored (a ∷ c ∷ l) k eb = absurd (omega arith)
