@@ -14,27 +14,15 @@ use Rattle.device.specs.Refusals.{setUp, runFits, wellFormed, lengthsOf, refusa
 use Rattle.device.specs.Starts.{Left, newState, startRefusal, startedOf}
 use Rattle.dispatcher.specs.Answers.{Told, mute, toldOf}
 use Rattle.feed.specs.Feed.{fedOf}
-use Rattle.tinyboot_c.specs.declared.answer.Said.{Said}
-use Rattle.tinyboot_c.specs.Layout.{setupFrom, holdsState, stateFrom, numberBytes, partBytes, stateBytes, answerBytes}
+use Rattle.c_layout.specs.Layout.{setupFrom, holdsState, stateFrom, numberBytes, partBytes, stateBytes, answerBytes}
 use Rattle.tinyboot_c.specs.Calls
-use Rattle.tinyboot_c.specs.Inner.{toldBy}
+use Rattle.c_layout.proofs.Answering.{answer-short}
 
 yes : {A : Type 0} (t : Bool) (a b : A) → t ≡ true → a ≡ pick t a b
 yes t a b e = ap (λ (u : Bool). pick u a b) (sym e)
 
 no : {A : Type 0} (t : Bool) (a b : A) → t ≡ false → b ≡ pick t a b
 no t a b e = ap (λ (u : Bool). pick u a b) (sym e)
-
--- the code's numbers are an answer's, where each is
-pub told-by : (s : Said) (t : Told) → s .number ≡ t .number → s .len ≡ t .len → s .wait ≡ t .wait → s .mode ≡ t .mode → toldBy s ≡ t
-told-by s t n l w m = rw (n, l, w, m) refl
-
--- an answer in its buffer
-pub answer-short : (t : Told) (taken : ℕ) (a : List ℕ) → length a < 16 → a ≡ Calls.answered t taken a
-answer-short t taken a h = yes (ltb (length a) 16) a (over (answerBytes t taken) a) (lt-ltb (length a) 16 h)
-
-pub answer-laid : (t : Told) (taken : ℕ) (a : List ℕ) → 16 ≤ length a → over (answerBytes t taken) a ≡ Calls.answered t taken a
-answer-laid t taken a h = no (ltb (length a) 16) a (over (answerBytes t taken) a) (le-ltb (length a) 16 h)
 
 pub new-refused : (s : List ℕ) → (length s ≡ 136 → ⊥) → Calls.afterNew 11 s ≡ Calls.cNew s
 unfolding Calls.cNew

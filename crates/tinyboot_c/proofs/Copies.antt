@@ -6,7 +6,7 @@ use native.Mathlib.Omega.{arith}
 use native.Mathlib.Numerals.{add-one}
 use lib.ListN.{length, getD, take}
 use lib.Seq.{drop-cons}
-use Rattle.tinyboot_c.specs.Layout.{part}
+use Rattle.c_layout.specs.Layout.{part}
 
 -- a part is its first byte, then the part after that
 pub part-cons : (l : List ℕ) (at n : ℕ) → at < length l → part at (suc n) l ≡ getD l at 0 ∷ part (at + 1) n l

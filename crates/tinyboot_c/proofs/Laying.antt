@@ -6,7 +6,7 @@ use native.Mathlib.Omega.{arith}
 use lib.ListN.{length, take, drop, length-append, length-drop, drop-of-length-le}
 use lib.Seq.{paste, take-at, take-length, take-all, drop-append-add}
 use Rattle.laws.specs.Over.{over}
-use Rattle.tinyboot_c.specs.Layout.{part, partBytes}
+use Rattle.c_layout.specs.Layout.{part, partBytes}
 
 -- laid from the start on
 pub laid-first : (a x : List ℕ) → paste a 0 x (length x) ≡ over x a

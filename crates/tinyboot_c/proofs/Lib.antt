@@ -1,5 +1,4 @@
 mod Copies
-mod Holding
 mod Laying
 mod Cases
 pub mod Round

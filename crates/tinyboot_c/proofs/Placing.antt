@@ -10,10 +10,10 @@ use Rattle.dispatcher.specs.Answers.{Told, toldOf}
 use Rattle.feed.specs.declared.Passed.{Passed}
 use Rattle.feed.specs.Feed.{Called}
 use Rattle.in_place.specs.On.{restIn, CalledOn, calledOn, onBy}
-use Rattle.tinyboot_c.specs.declared.answer.Said.{Said}
-use Rattle.tinyboot_c.specs.Layout.{numberBytes, partBytes, answerBytes}
+use Rattle.c_layout.specs.declared.Said.{Said}
+use Rattle.c_layout.specs.Layout.{numberBytes, partBytes, answerBytes}
 use Rattle.tinyboot_c.specs.Calls
-use Rattle.tinyboot_c.specs.Inner.{toldBy}
+use Rattle.c_layout.specs.Inner.{toldBy}
 use Rattle.tinyboot_c.proofs.Laying.{laid-next}
 
 -- n takes the place of the last 8 of 136 bytes

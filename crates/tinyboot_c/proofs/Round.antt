@@ -24,10 +24,10 @@ use Rattle.device.specs.declared.State.{State}
 use Rattle.device.specs.Refusals.{runFits, wellFormed}
 use Rattle.dispatcher.specs.Answers.{mute}
 use Rattle.feed.specs.Feed.{Called, stateWith, refusalFor, refusedBy, takenOf, fedOf}
-use Rattle.tinyboot_c.specs.Layout.{part, setupFrom, holdsState, stateFrom, flagByte, numberBytes, partBytes, stateBytes, answerBytes}
+use Rattle.c_layout.specs.Layout.{part, setupFrom, holdsState, stateFrom, flagByte, numberBytes, partBytes, stateBytes, answerBytes}
 use Rattle.tinyboot_c.specs.Calls.{afterFeed, feedCalled}
 use Rattle.tinyboot_c.proofs.Copies.{part-four}
-use Rattle.tinyboot_c.proofs.Holding.{holds-size, holds-flags}
+use Rattle.c_layout.proofs.Holding.{holds-size, holds-flags}
 
 flag-read : (b : Bool) → eqb (flagByte b) 1 ≡ b
 flag-read true = refl

@@ -17,12 +17,13 @@ use Rattle.feed.specs.Feed.{Called, stateWith, fedOf}
 use Rattle.in_place.specs.On.{stateIn}
 use Rattle.in_place.specs.Byte.{laidTo, byteOn}
 use Rattle.in_place.proofs.Quick.{byte-laid, byte-within, byte-fed}
-use Rattle.tinyboot_c.specs.Layout.{part, setupFrom, holdsState, stateFrom, flagByte, numberBytes, partBytes, stateBytes, answerBytes}
+use Rattle.c_layout.specs.Layout.{part, setupFrom, holdsState, stateFrom, flagByte, numberBytes, partBytes, stateBytes, answerBytes}
 use Rattle.tinyboot_c.specs.Calls.{AfterFeed, afterFeed, feedCalled}
-use Rattle.tinyboot_c.specs.Inner.{numbersFrom, toldBy, ByteFed}
-use Rattle.tinyboot_c.specs.declared.answer.Said.{Said}
+use Rattle.c_layout.specs.Inner.{toldBy}
+use Rattle.tinyboot_c.specs.Inner.{numbersFrom, ByteFed}
+use Rattle.c_layout.specs.declared.Said.{Said}
 use Rattle.tinyboot_c.specs.declared.state.Numbers.{Numbers}
-use Rattle.tinyboot_c.proofs.Holding.{holds-size}
+use Rattle.c_layout.proofs.Holding.{holds-size}
 use Rattle.tinyboot_c.proofs.Round.{read-written}
 
 -- in three parts: the byte at g of the first, and the count in the last

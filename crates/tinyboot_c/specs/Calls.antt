@@ -13,11 +13,7 @@ use Rattle.device.specs.Refusals.{refusalOf}
 use Rattle.device.specs.Starts.{Left, newState, startRefusal, startedOf}
 use Rattle.dispatcher.specs.Answers.{Told, mute}
 use Rattle.feed.specs.Feed.{Called, fedOf}
-use Rattle.tinyboot_c.specs.Layout.{setupSize, stateSize, answerSize, setupFrom, holdsState, stateFrom, stateBytes, answerBytes}
-
--- an answer in its buffer: the first 16 bytes; a buffer that has fewer stays as it is
-abbrev pub answered : Told → ℕ → List ℕ → List ℕ
-answered t taken answer = pick (ltb (length answer) answerSize) answer (over (answerBytes t taken) answer)
+use Rattle.c_layout.specs.Layout.{setupSize, stateSize, answerSize, setupFrom, holdsState, stateFrom, stateBytes, answerBytes, answered}
 
 -- a feed: its result, and each buffer after it
 pub record AfterFeed : Type 0 where

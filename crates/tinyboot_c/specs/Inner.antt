@@ -7,21 +7,16 @@ use lib.ListN.{length, getD}
 use lib.Dec.{eqb}
 use Rattle.laws.specs.Low.{lowFirst}
 use Rattle.laws.specs.Over.{over}
-use Rattle.dispatcher.specs.Answers.{Told, mute}
+use Rattle.dispatcher.specs.Answers.{mute}
 use Rattle.feed.specs.Feed.{fedOf}
-use Rattle.tinyboot_c.specs.declared.answer.Said.{Said}
 use Rattle.tinyboot_c.specs.declared.state.Numbers.{Numbers}
-use Rattle.tinyboot_c.specs.Layout.{part, setupFrom, stateFrom, answerBytes}
+use Rattle.c_layout.specs.Layout.{part, setupFrom, stateFrom, answerBytes}
 use Rattle.tinyboot_c.specs.Calls.{afterFeed, feedCalled}
 
 -- a state's numbers, as the code has them
 abbrev pub numbersFrom : List ℕ → Numbers
 numbersFrom l =
     record { got = getD l 132 0; fill = getD l 133 0; next = lowFirst (part 128 4 l); selected = eqb (getD l 134 0) 1; closed = eqb (getD l 135 0) 1 }
-
--- the code's numbers of an answer
-abbrev pub toldBy : Said → Told
-toldBy s = record { number = s .number; len = s .len; wait = s .wait; mode = s .mode }
 
 -- one byte, tried alone: not taken, the state is as it was; taken, state and answer are the feed's, whatever stands in the other buffers
 abbrev pub ByteFed : List ℕ → List ℕ → List ℕ → ℕ → ℕ → ℕ → List ℕ → Bool → Type 0

@@ -1,14 +1,14 @@
 // A feed of buffers that hold a setup and a state. The state's arrays stay where they stand.
-use crate::answer::lay_answer;
-use crate::answer::numbers_of;
-use crate::answer::refusal_number;
-use crate::answer::unsaid;
 use crate::layout::four;
 use crate::layout::setup_from;
 use crate::layout::wide;
 use crate::state::fetch;
 use crate::state::lay_numbers;
 use crate::state::numbers_from;
+use c_layout::lay_answer;
+use c_layout::numbers_of;
+use c_layout::refusal_number;
+use c_layout::unsaid;
 use device::Setup;
 use device::refusal::refuses;
 use in_place::byte_on;
@@ -17,7 +17,7 @@ ghost use mathlib.Core.Path.{_≡_};
 ghost use Prim.Native.Nat.{_≤_};
 ghost use lib.ListN.{length};
 ghost use Rattle.feed.specs.Feed.{fedOf};
-ghost use Rattle.tinyboot_c.specs.Layout.{setupFrom, holdsState, stateFrom};
+ghost use Rattle.c_layout.specs.Layout.{setupFrom, holdsState, stateFrom};
 ghost use Rattle.tinyboot_c.specs.Calls.{roomless, afterFeed, feedCalled};
 ghost use Rattle.tinyboot_c.specs.Inner.{ByteFed};
 ghost use mathlib.Core.Bool.{true};

@@ -3,11 +3,10 @@ use device::Setup;
 use tinyboot_protocol::le;
 ghost use mathlib.Core.Path.{_≡_};
 ghost use Prim.Native.Nat.{_≤_, _+_};
-ghost use lib.Dec.{eqb};
 ghost use lib.ListN.{length};
 ghost use lib.Seq.{paste};
 ghost use Rattle.laws.specs.Low.{lowFirst};
-ghost use Rattle.tinyboot_c.specs.Layout.{part, setupSize, setupFrom};
+ghost use Rattle.c_layout.specs.Layout.{part, setupFrom};
 
 // A byte as a count.
 pub(crate) fn wide(b: u8) -> usize
@@ -40,13 +39,6 @@ pub(crate) fn lay(s: &mut [u8], at: usize, new: &[u8])
         s[at + i] = new[i];
         i += 1;
     }
-}
-
-// Whether these bytes are as many as a setup's.
-pub(crate) fn holds_setup(setup: &[u8]) -> bool
-    ensures { λ r. ⌜ r ≡ eqb (length (now (setup .entry))) setupSize ⌝ }
-{
-    setup.len() == 31
 }
 
 fn id_from(setup: &[u8]) -> [u8; 16]

@@ -1,20 +1,19 @@
 // The device for programs in C or Rust: each call takes and leaves plain bytes. Ours: the Rust has no such interface.
-mod answer;
 mod feeding;
 mod layout;
 mod starting;
 mod state;
 
-use crate::answer::refuse;
-use crate::layout::holds_setup;
 use crate::layout::setup_from;
-use crate::state::holds_state;
 use crate::state::lay_state;
+use c_layout::holds_setup;
+use c_layout::holds_state;
+use c_layout::refuse;
 use device::start::new_state;
 use tinyboot_protocol::crc::crc16;
 ghost use mathlib.Core.Path.{_≡_};
 ghost use Rattle.tinyboot_protocol.specs.Crc.{crcFrom};
-ghost use Rattle.tinyboot_c.specs.Layout.{stateSize};
+ghost use Rattle.c_layout.specs.Layout.{stateSize};
 ghost use Rattle.tinyboot_c.specs.Calls.{afterNew, cNew, afterFeed, cFed, afterStart, cStarted};
 
 // How many bytes a state takes.

@@ -1,8 +1,11 @@
 // A start with buffers that hold a setup, and are as long as a state.
-use crate::answer::lay_start;
-use crate::answer::refusal_number;
 use crate::state::lay_state;
+use c_layout::Said;
+use c_layout::lay_answer;
+use c_layout::mode_number;
+use c_layout::refusal_number;
 use device::Setup;
+use device::refusal::Refusal;
 use device::refusal::refuses;
 use device::start::start;
 use tinyboot_protocol::RunMode;
@@ -10,8 +13,11 @@ ghost use mathlib.Core.Path.{_≡_};
 ghost use Prim.Native.Nat.{_≤_};
 ghost use lib.ListN.{length};
 ghost use Rattle.tinyboot_protocol.specs.Names.{modeNumber};
+ghost use Rattle.laws.specs.Over.{over};
+ghost use Rattle.device.specs.Refusals.{refusalNumber};
+ghost use Rattle.c_layout.specs.Layout.{answerBytes};
 ghost use Rattle.device.specs.Starts.{startRefusal, startedOf};
-ghost use Rattle.tinyboot_c.specs.Calls.{asked, orNoRoom, afterStart, startCalled};
+ghost use Rattle.tinyboot_c.specs.Calls.{asked, startTold, orNoRoom, afterStart, startCalled};
 
 fn mode_of(mode: u8) -> RunMode
     ensures { λ r. ⌜ modeNumber r ≡ asked mode ⌝ }
@@ -28,6 +34,21 @@ pub(crate) fn unanswered(setup: Setup, flash: usize, meta: usize) -> u8
 {
     let f = [0u8; 64];
     refusal_number(refuses(setup, &f, 0, 0, 0xFFFF_FFFF, false, flash, meta, 0))
+}
+
+// A start's answer has no reply.
+fn lay_start(a: &mut [u8], refusal: Refusal, mode: RunMode) -> u8
+    requires { ⌜ 16 ≤ length (now a) ⌝ }
+    ensures { λ r. ⌜ (r ≡ refusalNumber refusal) ×
+        (now (a .exit) ≡ over (answerBytes (startTold (refusalNumber refusal) (modeNumber mode)) 0) (now (a .entry))) ⌝ }
+{
+    let said = Said {
+        number: refusal_number(refusal),
+        mode: mode_number(mode),
+        len: 0,
+        wait: 0,
+    };
+    lay_answer(a, said, 0)
 }
 
 pub(crate) fn started(

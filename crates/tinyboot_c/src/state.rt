@@ -2,12 +2,13 @@
 use crate::layout::four;
 use crate::layout::lay;
 use crate::layout::wide;
+use c_layout::number_bytes;
 use device::State;
 ghost use mathlib.Core.Path.{_≡_};
 ghost use Prim.Native.Nat.{_≤_, _+_};
 ghost use lib.ListN.{length};
 ghost use lib.Seq.{paste};
-ghost use Rattle.tinyboot_c.specs.Layout.{part, holdsState, flagByte, numberBytes, partBytes, stateBytes};
+ghost use Rattle.c_layout.specs.Layout.{part, numberBytes, partBytes, stateBytes};
 ghost use Rattle.tinyboot_c.specs.Inner.{numbersFrom};
 
 // What a state has beside its arrays.
@@ -17,19 +18,6 @@ pub struct Numbers {
     pub next: u32,
     pub selected: bool,
     pub closed: bool,
-}
-
-// Whether these bytes are a state's: as many, and flags that are 0 or 1.
-pub(crate) fn holds_state(state: &[u8]) -> bool
-    ensures { λ r. ⌜ r ≡ holdsState (now (state .entry)) ⌝ }
-{
-    if state.len() != 136 {
-        return false;
-    }
-    if 2 <= state[134] {
-        return false;
-    }
-    state[135] < 2
 }
 
 // The 64 bytes from a place on.
@@ -58,29 +46,6 @@ pub(crate) fn numbers_from(s: &[u8]) -> Numbers
     }
 }
 
-fn flag(b: bool) -> u8
-    ensures { λ r. ⌜ r ≡ flagByte b ⌝ }
-{
-    if b { 1 } else { 0 }
-}
-
-// What a state has beside its arrays, in 8 bytes.
-fn number_bytes(got: usize, fill: usize, next: u32, selected: bool, closed: bool) -> [u8; 8]
-    ensures { λ r. ⌜ r ≡ numberBytes got fill next selected closed ⌝ }
-{
-    [
-        (next % 256) as u8,
-        (next / 256 % 256) as u8,
-        (next / 256 / 256 % 256) as u8,
-        (next / 256 / 256 / 256 % 256) as u8,
-        (got % 256) as u8,
-        (fill % 256) as u8,
-        flag(selected),
-        flag(closed),
-    ]
-}
-
-// What a state has beside its arrays, laid where it stands.
 pub(crate) fn lay_numbers(
     s: &mut [u8],
     got: usize,

@@ -1,6 +1,6 @@
 use mathlib.Core.Path.{sym, _∙_}
 use borrow.Author.Tests.{eqb-true, not-true, not-false}
-use Rattle.tinyboot_c.proofs.Holding.{holds-size}
+use Rattle.c_layout.proofs.Holding.{holds-size}
 use Rattle.tinyboot_c.proofs.Cases.{feed-no-setup, feed-no-state, feed-short, feed-called}
 use native.Mathlib.Omega.{arith}
 use borrow.Author.Needs.{needs}

@@ -1,8 +1,9 @@
-use mathlib.Core.Path.{_≡_, refl, ap, _∙_}
+use mathlib.Core.Path.{_≡_, refl, ap, sym, _∙_}
 use lib.ListN.{length}
 use Rattle.dispatcher.specs.Answers.{mute}
-use Rattle.tinyboot_c.proofs.Cases.{told-by}
-use Rattle.tinyboot_c.proofs.Holding.{holds-size}
+use Rattle.c_layout.specs.Inner.{toldBy}
+use Rattle.c_layout.proofs.Answering.{told-by, answer-laid}
+use Rattle.c_layout.proofs.Holding.{holds-size}
 use Rattle.tinyboot_c.proofs.Single.{byte-answered}
 use native.Mathlib.Omega.{arith}
 use borrow.Author.Needs.{needs}
@@ -30,7 +31,7 @@ returns c =
     let u = c .before .before .before .unsaid .ensures in
     let v = c .before .before .lay-answer .ensures in
     let e = rw (c .before .before .before .before .before .if1 .taken) at (c .before .before .before .before .before .before .before .before .fed-byte .ensures) in
-    byte-answered (c .before .before .before .unsaid .result) (told-by (c .before .before .before .unsaid .result) (mute 0) (u .0) (u .1) (u .2) (u .3)) _ (v .0) _ (a .flash .now) (a .meta .now) (a .reply .now) (a .answer .now) _ (v .1) _
+    byte-answered (c .before .before .before .unsaid .result) (told-by (c .before .before .before .unsaid .result) (mute 0) (u .0) (u .1) (u .2) (u .3)) _ (v .0) _ (a .flash .now) (a .meta .now) (a .reply .now) (a .answer .now) _ (v .1 ∙ sym (answer-laid (toldBy (c .before .before .before .unsaid .result)) 1 (a .answer .now) (c .before .before .before .before .before .before .before .before .before .before .before .before .before .before .before .before .before .pre .1 .1))) _
     (e (a .flash .now) (a .meta .now) (a .reply .now) (a .answer .now) refl refl refl)
 
 setup-from-requires : tie.Need-setup-from-requires

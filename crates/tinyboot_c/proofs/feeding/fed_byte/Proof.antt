@@ -3,7 +3,7 @@ use mathlib.Core.Path.{_≡_, refl}
 use mathlib.Core.Bool.{true, false}
 use lib.ListN.{length, getD}
 use Rattle.in_place.proofs.Quick.{byte-kept}
-use Rattle.tinyboot_c.proofs.Holding.{holds-size}
+use Rattle.c_layout.proofs.Holding.{holds-size}
 use Rattle.tinyboot_c.proofs.Single.{byte-known, within, after-size, piece-stored}
 use native.Mathlib.Omega.{arith}
 use borrow.Author.Needs.{needs}

@@ -5,8 +5,8 @@ use lib.ListN.{length}
 use Rattle.dispatcher.specs.Answers.{toldOf}
 use Rattle.in_place.proofs.Placed.{on-long}
 use Rattle.feed.specs.Feed.{Called, fedOf}
-use Rattle.tinyboot_c.specs.Layout.{stateFrom}
-use Rattle.tinyboot_c.proofs.Cases.{told-by}
+use Rattle.c_layout.specs.Layout.{stateFrom}
+use Rattle.c_layout.proofs.Answering.{told-by, answer-laid}
 use Rattle.tinyboot_c.proofs.Placing.{fed-placed}
 use borrow.Author.Needs.{needs}
 use Rattle.tinyboot_c.proofs.feeding.fed_piece.Statement.{statement}
@@ -25,7 +25,7 @@ numbers-of-requires : tie.Need-numbers-of-requires
 numbers-of-requires c κs = search needs
 
 lay-answer-requires : tie.Need-lay-answer-requires
-lay-answer-requires c κs = c .before .before .before .before .before .before .before .before .before .before .before .before .before .before .before .before .before .before .before .before .before .before .before .before .before .before .before .pre .1
+lay-answer-requires c κs = search needs
 
 same-length : tie.Need-same-length
 same-length c = search needs
@@ -54,7 +54,7 @@ returns c =
     let u = c .before .before .before .numbers-of .ensures in
     let v = c .before .before .lay-answer .ensures in
     fed-placed (a .answer .now) p (a .state .now) _ _ _ _ x ls (lay-numbers-requires (c .before .before .before .before .before .before .before .before) (c .before .before .before .before .before .before .before .lay-numbers .lifetimes)) (e ∙ sym (on-long _ _ _ _ _ _ _ _ _ _ _ h))
-    _ (told-by _ (toldOf (p .answer)) (u .0) (u .1) (u .2) (u .3)) _ (v .0) _ (c .before .before .before .before .before .before .before .lay-numbers .ensures) _ (v .1)
+    _ (told-by _ (toldOf (p .answer)) (u .0) (u .1) (u .2) (u .3)) _ (v .0) _ (c .before .before .before .before .before .before .before .lay-numbers .ensures) _ (v .1 ∙ sym (answer-laid _ _ (a .answer .now) (c .before .before .before .before .before .before .before .before .before .before .before .before .before .before .before .before .before .before .before .before .before .before .before .before .before .before .before .before .before .before .pre .1)))
 
 pub fed-piece-spec : {M : Type 1} → statement M
 fed-piece-spec =

@@ -6,6 +6,7 @@ use lib.ListN.{length, getD, take, drop}
 use lib.Dec.{eqb, ltb}
 use Rattle.laws.specs.Pick.{pick}
 use Rattle.laws.specs.Low.{lowFirst, lowBytes}
+use Rattle.laws.specs.Over.{over}
 use Rattle.device.specs.declared.Setup.{Setup}
 use Rattle.device.specs.declared.State.{State}
 use Rattle.dispatcher.specs.Answers.{Told}
@@ -64,3 +65,7 @@ stateBytes s = partBytes (s .frame .bytes) (s .page) (numberBytes (s .frame .got
 -- the 16 bytes of an answer: its number, its mode, the reply's length, the wait before it, how many bytes were taken
 abbrev pub answerBytes : Told → ℕ → List ℕ
 answerBytes t taken = t .number ∷ t .mode ∷ (lowBytes 2 (t .len) ++ (lowBytes 4 (t .wait) ++ lowBytes 8 taken))
+
+-- an answer in its buffer: the first 16 bytes; a buffer that has fewer stays as it is
+abbrev pub answered : Told → ℕ → List ℕ → List ℕ
+answered t taken answer = pick (ltb (length answer) answerSize) answer (over (answerBytes t taken) answer)

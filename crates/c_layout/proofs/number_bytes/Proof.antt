@@ -1,8 +1,8 @@
 use mathlib.Core.Path.{refl}
 use native.Mathlib.Omega.{arith}
 use borrow.Author.Needs.{needs}
-use Rattle.tinyboot_c.proofs.state.number_bytes.Statement.{statement}
-use Rattle.tinyboot_c.proofs.state.number_bytes.Tie as tie
+use Rattle.c_layout.proofs.number_bytes.Statement.{statement}
+use Rattle.c_layout.proofs.number_bytes.Tie as tie
 
 cast-t7 : tie.Need-cast-t7
 cast-t7 c = search needs

@@ -7,7 +7,7 @@ use lib.ListN.{length, getD}
 use lib.Dec.{eqb, ltb}
 use borrow.Author.Tests.{eqb-true, ltb-true, eq-eqb, lt-ltb}
 use Rattle.laws.proofs.Bools.{and-both}
-use Rattle.tinyboot_c.specs.Layout.{holdsState}
+use Rattle.c_layout.specs.Layout.{holdsState}
 
 pub holds-size : (l : List ℕ) → holdsState l ≡ true → length l ≡ 136
 unfolding holdsState

@@ -1,8 +1,8 @@
 use mathlib.Core.Path.{refl}
 use native.Mathlib.Omega.{arith}
 use borrow.Author.Needs.{needs}
-use Rattle.tinyboot_c.proofs.answer.numbers_of.Statement.{statement}
-use Rattle.tinyboot_c.proofs.answer.numbers_of.Tie as tie
+use Rattle.c_layout.proofs.numbers_of.Statement.{statement}
+use Rattle.c_layout.proofs.numbers_of.Tie as tie
 
 enum-told : tie.Need-enum-told
 enum-told c = search needs

@@ -1,19 +1,19 @@
-// What a call says, in the caller's bytes.
-use crate::layout::lay;
+// Where a setup, a state and an answer stand in the bytes that a program in C lends, as far as it needs no more than that. Ours: the Rust has no such
+// interface.
+
 use device::refusal::Refusal;
 use dispatcher::Answer;
 use tinyboot_protocol::RunMode;
 ghost use mathlib.Core.Path.{_≡_};
-ghost use Prim.Native.Nat.{_≤_};
+ghost use lib.Dec.{eqb};
 ghost use lib.ListN.{length};
-ghost use Rattle.laws.specs.Over.{over};
 ghost use Rattle.tinyboot_protocol.specs.Names.{modeNumber};
 ghost use Rattle.device.specs.Refusals.{refusalNumber};
 ghost use Rattle.dispatcher.specs.Answers.{mute, toldOf};
-ghost use Rattle.tinyboot_c.specs.Layout.{answerBytes};
-ghost use Rattle.tinyboot_c.specs.Calls.{answered, startTold};
-ghost use Rattle.tinyboot_c.specs.Inner.{toldBy};
+ghost use Rattle.c_layout.specs.Layout.{setupSize, holdsState, flagByte, numberBytes, answerBytes, answered};
+ghost use Rattle.c_layout.specs.Inner.{toldBy};
 
+// What a call says.
 pub struct Said {
     pub number: u8,
     pub mode: u8,
@@ -21,7 +21,50 @@ pub struct Said {
     pub wait: usize,
 }
 
-pub(crate) fn unsaid(number: u8) -> Said
+// Whether these bytes are as many as a setup's.
+pub fn holds_setup(setup: &[u8]) -> bool
+    ensures { λ r. ⌜ r ≡ eqb (length (now (setup .entry))) setupSize ⌝ }
+{
+    setup.len() == 31
+}
+
+// Whether these bytes are a state's: as many, and flags that are 0 or 1.
+pub fn holds_state(state: &[u8]) -> bool
+    ensures { λ r. ⌜ r ≡ holdsState (now (state .entry)) ⌝ }
+{
+    if state.len() != 136 {
+        return false;
+    }
+    if 2 <= state[134] {
+        return false;
+    }
+    state[135] < 2
+}
+
+fn flag(b: bool) -> u8
+    ensures { λ r. ⌜ r ≡ flagByte b ⌝ }
+{
+    if b { 1 } else { 0 }
+}
+
+// What a state has beside its arrays, in 8 bytes.
+pub fn number_bytes(got: usize, fill: usize, next: u32, selected: bool, closed: bool) -> [u8; 8]
+    ensures { λ r. ⌜ r ≡ numberBytes got fill next selected closed ⌝ }
+{
+    [
+        (next % 256) as u8,
+        (next / 256 % 256) as u8,
+        (next / 256 / 256 % 256) as u8,
+        (next / 256 / 256 / 256 % 256) as u8,
+        (got % 256) as u8,
+        (fill % 256) as u8,
+        flag(selected),
+        flag(closed),
+    ]
+}
+
+// What a state has beside its arrays, laid where it stands.
+pub fn unsaid(number: u8) -> Said
     ensures { λ r. ⌜ (r .number ≡ number) × (r .len ≡ 0) × (r .wait ≡ 0) × (r .mode ≡ 1) ⌝ }
 {
     Said {
@@ -32,7 +75,7 @@ pub(crate) fn unsaid(number: u8) -> Said
     }
 }
 
-pub(crate) fn refusal_number(refusal: Refusal) -> u8
+pub fn refusal_number(refusal: Refusal) -> u8
     ensures { λ r. ⌜ r ≡ refusalNumber refusal ⌝ }
 {
     match refusal {
@@ -46,7 +89,7 @@ pub(crate) fn refusal_number(refusal: Refusal) -> u8
     }
 }
 
-fn mode_number(mode: RunMode) -> u8
+pub fn mode_number(mode: RunMode) -> u8
     ensures { λ r. ⌜ r ≡ modeNumber mode ⌝ }
 {
     match mode {
@@ -55,7 +98,7 @@ fn mode_number(mode: RunMode) -> u8
     }
 }
 
-pub(crate) fn numbers_of(answer: Answer) -> Said
+pub fn numbers_of(answer: Answer) -> Said
     ensures { λ r. ⌜ (r .number ≡ toldOf answer .number) × (r .len ≡ toldOf answer .len) × (r .wait ≡ toldOf answer .wait) × (r .mode ≡ toldOf answer .mode) ⌝ }
 {
     match answer {
@@ -106,37 +149,22 @@ fn answer_bytes(said: Said, taken: usize) -> [u8; 16]
     ]
 }
 
-// The answer laid, and its number.
-pub(crate) fn lay_answer(a: &mut [u8], said: Said, taken: usize) -> u8
-    requires { ⌜ 16 ≤ length (now a) ⌝ }
-    ensures { λ r. ⌜ (r ≡ said .number) × (now (a .exit) ≡ over (answerBytes (toldBy said) taken) (now (a .entry))) ⌝ }
+// The answer laid where there is room for one, and its number.
+pub fn lay_answer(a: &mut [u8], said: Said, taken: usize) -> u8
+    ensures { λ r. ⌜ (r ≡ said .number) × (now (a .exit) ≡ answered (toldBy said) taken (now (a .entry))) ⌝ }
 {
-    let bytes = answer_bytes(said, taken);
-    lay(a, 0, &bytes);
+    if a.len() < 16 {
+        return said.number;
+    }
+    let new = answer_bytes(said, taken);
+    bytes::copy(&new, a);
     said.number
 }
 
-// A start's answer has no reply.
-pub(crate) fn lay_start(a: &mut [u8], refusal: Refusal, mode: RunMode) -> u8
-    requires { ⌜ 16 ≤ length (now a) ⌝ }
-    ensures { λ r. ⌜ (r ≡ refusalNumber refusal) ×
-        (now (a .exit) ≡ over (answerBytes (startTold (refusalNumber refusal) (modeNumber mode)) 0) (now (a .entry))) ⌝ }
-{
-    let said = Said {
-        number: refusal_number(refusal),
-        mode: mode_number(mode),
-        len: 0,
-        wait: 0,
-    };
-    lay_answer(a, said, 0)
-}
-
-// A refusal is laid where there is room for an answer.
-pub(crate) fn refuse(a: &mut [u8], number: u8) -> u8
+// A refusal takes nothing.
+pub fn refuse(a: &mut [u8], number: u8) -> u8
     ensures { λ r. ⌜ (r ≡ number) × (now (a .exit) ≡ answered (mute number) 0 (now (a .entry))) ⌝ }
 {
-    if a.len() < 16 {
-        return number;
-    }
-    lay_answer(a, unsaid(number), 0)
+    let said = unsaid(number);
+    lay_answer(a, said, 0)
 }

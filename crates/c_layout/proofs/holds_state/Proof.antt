@@ -1,10 +1,10 @@
-use Rattle.tinyboot_c.specs.Layout.{holdsState}
+use Rattle.c_layout.specs.Layout.{holdsState}
 use borrow.Author.Tests.{eq-eqb, ne-eqb, le-ltb}
-use Rattle.tinyboot_c.proofs.Holding.{holds-last}
+use Rattle.c_layout.proofs.Holding.{holds-last}
 use native.Mathlib.Omega.{arith}
 use borrow.Author.Needs.{needs}
-use Rattle.tinyboot_c.proofs.state.holds_state.Statement.{statement}
-use Rattle.tinyboot_c.proofs.state.holds_state.Tie as tie
+use Rattle.c_layout.proofs.holds_state.Statement.{statement}
+use Rattle.c_layout.proofs.holds_state.Tie as tie
 
 returns : tie.Need-returns
 unfolding holdsState

@@ -1,0 +1,47 @@
+use Prim.Native.Nat.{ℕ}
+use mathlib.Core.Path.{refl, ap, _∙_}
+use mathlib.Core.List.{List, _++_}
+use lib.ListN.{length, drop}
+use Rattle.laws.specs.Over.{over}
+use lib.Seq.{take-all}
+use Rattle.c_layout.specs.Inner.{toldBy}
+use Rattle.c_layout.proofs.Answering.{answer-short, answer-laid}
+use native.Mathlib.Omega.{arith}
+use borrow.Author.Needs.{needs}
+use Rattle.c_layout.proofs.lay_answer.Statement.{statement}
+use Rattle.c_layout.proofs.lay_answer.Tie as tie
+
+returns : tie.Need-returns
+returns c = let a = c .before .before .args in (refl, answer-short (toldBy (a .said)) (a .taken) (a .a .now) (c .if1 .taken))
+
+answer-bytes-requires : tie.Need-answer-bytes-requires
+answer-bytes-requires c κs = search needs
+
+slice-aggregate-copy : tie.Need-slice-aggregate-copy
+slice-aggregate-copy c = search needs
+
+copy-requires : tie.Need-copy-requires
+copy-requires c κs = search needs
+
+same-length : tie.Need-same-length
+same-length c = search needs
+
+returns-2 : tie.Need-returns-2
+returns-2 c =
+    let a = c .before .before .before .before .before .before .before .before .args in
+    let x : List ℕ = c .before .before .before .before .before .answer-bytes .result in (
+      refl,
+      c .before .before .copy .ensures .1 ∙ ap (λ (y : List ℕ). y ++ drop (length x) (a .a .now)) (take-all (length x) x (omega arith)) ∙
+          ap (λ (v : List ℕ). over v (a .a .now)) (c .before .before .before .before .before .answer-bytes .ensures) ∙ answer-laid (toldBy (a .said)) (a .taken) (a .a .now) (c .before .before .before .before .before .before .if1 .left),
+    )
+
+pub lay-answer-spec : {M : Type 1} → statement M
+lay-answer-spec =
+    tie.close
+    (tie.spec
+    returns
+    answer-bytes-requires
+    slice-aggregate-copy
+    copy-requires
+    same-length
+    returns-2)
