@@ -52,11 +52,15 @@ module _ (erase capacity idLen got fill next : ℕ) (closed : Bool) (s : List �
   unfolding byteOn
   byte-short h = rw (lt-leb 128 (length s) h) refl
 
-  module _ (h : 128 ≤ length s) where
-    pub byte-refused : test ≡ false → laidTo false s ≡ call
-    unfolding byteOn
-    byte-refused w = rw (le-leb 128 (length s) h, w) refl
+  pub byte-refused : test ≡ false → laidTo false s ≡ call
+  unfolding byteOn
+  byte-refused w = go (leb 128 (length s)) refl
+    where
+      go : (t : Bool) → leb 128 (length s) ≡ t → laidTo false s ≡ call
+      go true e = rw (e, w) refl
+      go false e = rw e refl
 
+  module _ (h : 128 ≤ length s) where
     tried : test ≡ true → call ≡ laidTo (layByteOf 52 true frame got b .done) (pick (layByteOf 52 true frame got b .done) (set s got b) s)
     unfolding byteOn
     tried w = rw (le-leb 128 (length s) h, w) refl

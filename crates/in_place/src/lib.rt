@@ -297,9 +297,6 @@ pub fn byte_on(
 ) -> bool
     ensures { λ r. ⌜ laidTo r (now (s .exit)) ≡ byteOn 52 64 erase capacity «id_len» got fill next closed (now (s .entry)) b flash meta room ⌝ }
 {
-    if s.len() < 128 {
-        return false;
-    }
     if clear(
         erase,
         capacity,
@@ -311,7 +308,9 @@ pub fn byte_on(
         meta,
         room,
     ) {
-        return lay_byte(&mut s[..64], got, true, b);
+        if 128 <= s.len() {
+            return lay_byte(&mut s[..64], got, true, b);
+        }
     }
     false
 }

@@ -8,11 +8,6 @@ use borrow.Author.Needs.{needs}
 use Rattle.in_place.proofs.byte_on.Statement.{statement}
 use Rattle.in_place.proofs.byte_on.Tie as tie
 
-returns : tie.Need-returns
-returns c =
-    let a = c .before .before .args in
-    byte-short (a .erase) (a .capacity) (a .id-len) (a .got) (a .fill) (a .next) (a .closed) (a .s .now) (a .b) (a .flash) (a .meta) (a .room) (c .if1 .taken)
-
 clear-requires : tie.Need-clear-requires
 clear-requires c κs = search needs
 
@@ -21,7 +16,7 @@ slice-relend-prefix-lay-byte c = search needs
 
 slice-aggregate-lay-byte : tie.Need-slice-aggregate-lay-byte
 slice-aggregate-lay-byte c =
-    let l : 128 ≤ length (c .before .before .before .before .before .args .s .now) = c .before .before .before .if1 .left in
+    let l : 128 ≤ length (c .before .before .before .before .before .args .s .now) = c .before .if2 .taken in
     sym (length-take-le 64 (c .before .before .before .before .before .args .s .now) (omega arith))
 
 lay-byte-requires : tie.Need-lay-byte-requires
@@ -30,25 +25,30 @@ lay-byte-requires c κs = search needs
 same-length : tie.Need-same-length
 same-length c = search needs
 
+returns : tie.Need-returns
+returns c =
+    let a = c .before .before .before .before .before .before .before .before .args in
+    byte-tried (a .erase) (a .capacity) (a .id-len) (a .got) (a .fill) (a .next) (a .closed) (a .s .now) (a .b) (a .flash) (a .meta) (a .room) (c .before .before .before .before .if2 .taken) (sym (c .before .before .before .before .before .before .clear .ensures) ∙ c .before .before .before .before .before .if1 .taken) _ (c .before .before .lay-byte .ensures)
+
 returns-2 : tie.Need-returns-2
 returns-2 c =
-    let a = c .before .before .before .before .before .before .before .before .args in
-    byte-tried (a .erase) (a .capacity) (a .id-len) (a .got) (a .fill) (a .next) (a .closed) (a .s .now) (a .b) (a .flash) (a .meta) (a .room) (c .before .before .before .before .before .before .if1 .left) (sym (c .before .before .before .before .before .clear .ensures) ∙ c .before .before .before .before .if2 .taken) _ (c .before .before .lay-byte .ensures)
+    let a = c .before .before .before .before .args in
+    byte-short (a .erase) (a .capacity) (a .id-len) (a .got) (a .fill) (a .next) (a .closed) (a .s .now) (a .b) (a .flash) (a .meta) (a .room) (c .if2 .left)
 
 returns-3 : tie.Need-returns-3
 returns-3 c =
-    let a = c .before .before .before .before .args in
-    byte-refused (a .erase) (a .capacity) (a .id-len) (a .got) (a .fill) (a .next) (a .closed) (a .s .now) (a .b) (a .flash) (a .meta) (a .room) (c .before .before .if1 .left) (sym (c .before .clear .ensures) ∙ c .if2 .left)
+    let a = c .before .before .before .args in
+    byte-refused (a .erase) (a .capacity) (a .id-len) (a .got) (a .fill) (a .next) (a .closed) (a .s .now) (a .b) (a .flash) (a .meta) (a .room) (sym (c .before .clear .ensures) ∙ c .if1 .left)
 
 pub byte-on-spec : {M : Type 1} → statement M
 byte-on-spec =
     tie.close
     (tie.spec
-    returns
     clear-requires
     slice-relend-prefix-lay-byte
     slice-aggregate-lay-byte
     lay-byte-requires
     same-length
+    returns
     returns-2
     returns-3)
