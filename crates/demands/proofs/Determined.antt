@@ -18,7 +18,7 @@ use Rattle.frames.specs.declared.frame.Stop.{Stop}
 use Rattle.tinyboot_protocol.specs.Names.{statusNumber, modeNumber, cmdFoundOf, statusFoundOf}
 use Rattle.tinyboot_protocol.specs.Baud.{baudIndex, baudFoundOf}
 use Rattle.frames.specs.Stored.{Said, saidOf, Read, seen}
-use Rattle.frames.specs.Sent.{Sent, sent}
+use Rattle.sending.specs.Sent.{Sent, sent}
 use Rattle.tinyboot_protocol.proofs.Apart.{cmd-found-apart, status-apart, status-found-apart, modeFrom, mode-back, mode-apart, rate-apart, rate-found-apart}
 use Rattle.flash.specs.declared.storage.Stored.{Stored}
 use Rattle.platform.specs.declared.boot_meta_store.Step.{Step}

@@ -11,8 +11,8 @@ use Rattle.laws.specs.Pick.{pick}
 use Rattle.laws.specs.Over.{over}
 use Rattle.frames.specs.Reading.{lenOf, cmdOf}
 use Rattle.frames.specs.Stored.{ready}
-use Rattle.frames.specs.Sent.{wire, Sent, sendOf, sealed, sent}
-use Rattle.frames.proofs.Sealing.{sealed-length}
+use Rattle.sending.specs.Sent.{wire, Sent, sendOf, sealed, sent}
+use Rattle.sending.proofs.Sealing.{sealed-length}
 use Rattle.tinyboot_core.specs.Select.{Choice, copied, selectOf}
 use Rattle.tinyboot_core.proofs.Selecting.{bytes-copied, select-length}
 use Rattle.commands.specs.Fields.{Unsupported}

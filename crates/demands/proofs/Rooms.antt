@@ -11,8 +11,8 @@ use lib.Dec.{eqb, leb}
 use Rattle.laws.specs.Over.{over}
 use Rattle.frames.specs.Reading.{lenOf}
 use Rattle.frames.specs.Stored.{ready}
-use Rattle.frames.specs.Sent.{wire, sealed, Sent, sent, sendOf}
-use Rattle.frames.proofs.Sealing.{sealed-length, sealed-part}
+use Rattle.sending.specs.Sent.{wire, sealed, Sent, sent, sendOf}
+use Rattle.sending.proofs.Sealing.{sealed-length, sealed-part}
 use Rattle.tinyboot_protocol.specs.Flags.{bitOf}
 use Rattle.commands.specs.Fields.{flagsOf}
 use Rattle.device.specs.declared.Setup.{Setup}

@@ -5,7 +5,7 @@ use mathlib.Core.Path.{_≡_}
 use mathlib.Core.List.{List, [], _∷_, _++_}
 use lib.ListN.{length, getD, take, drop, replicate}
 use Rattle.laws.specs.Low.{lowBytes}
-use Rattle.frames.specs.Sent.{wire}
+use Rattle.sending.specs.Sent.{wire}
 use Rattle.tinyboot_core.specs.Start.{startOf}
 use Rattle.device.specs.declared.Setup.{Setup}
 use Rattle.device.specs.Starts.{newState}

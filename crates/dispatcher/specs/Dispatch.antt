@@ -8,7 +8,7 @@ use lib.Dec.{eqb}
 use Rattle.laws.specs.Pick.{pick}
 use Rattle.tinyboot_protocol.specs.Flags.{bitOf}
 use Rattle.frames.specs.Reading.{cmdOf}
-use Rattle.frames.specs.Sent.{Sent, sendOf}
+use Rattle.sending.specs.Sent.{Sent, sendOf}
 use Rattle.tinyboot_core.specs.Select.{Choice, selectOf}
 use Rattle.commands.specs.Fields.{flagsOf, Ok}
 use Rattle.device.specs.declared.Setup.{Setup}

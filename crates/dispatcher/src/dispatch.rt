@@ -3,7 +3,6 @@
 
 use crate::Answer;
 use device::Setup;
-use frames::frame;
 use handler::Handled;
 use tinyboot_core::addressing;
 use tinyboot_core::addressing::MAX_UID_LEN;
@@ -65,7 +64,7 @@ fn reply(h: Handled, wait: u8, f: &mut [u8; 64], room: &mut [u8]) -> Answer
     let asked = flags(f);
     let status = h.status;
     head(f, status, h.len);
-    let len = frame::send(f, room);
+    let len = sending::send(f, room);
     if h.restart {
         return Answer::Restart {
             len: len,

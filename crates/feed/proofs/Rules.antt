@@ -3,7 +3,7 @@ use Rattle.laws.specs.Fold.{fold}
 use Rattle.tinyboot_protocol.specs.Crc.{entered, bits, bitsOf, crcFrom}
 use Rattle.frames.specs.Reading.{hunt, overhears, verdictOf, checked, started}
 use Rattle.frames.specs.Stored.{begun, store, wellOf}
-use Rattle.frames.specs.Sent.{sealed, sendOf}
+use Rattle.sending.specs.Sent.{sealed, sendOf}
 use Rattle.tinyboot_core.specs.Select.{agree, matches, slotOf, copied, selectOf}
 use Rattle.platform.specs.State.{stateRead, appPresent}
 use Rattle.info.specs.Info.{appVersion, infoOf}

@@ -5,6 +5,5 @@ pub mod Steps
 pub mod Start
 pub mod Loop
 pub mod Anywhere
-pub mod Sealing
 pub mod Vectors
 pub mod Parts

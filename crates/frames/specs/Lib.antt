@@ -1,4 +1,3 @@
 pub mod Reading
 pub mod Stored
-pub mod Sent
 pub mod Info

@@ -13,11 +13,9 @@ ghost use mathlib.Core.List.{_++_, _∷_, []};
 ghost use lib.ListN.{length, getD, take, drop};
 ghost use lib.Seq.{paste};
 ghost use Rattle.laws.specs.Pick.{pick};
-ghost use Rattle.laws.specs.Over.{over};
 ghost use Rattle.tinyboot_protocol.specs.Crc.{crcOf};
 ghost use Rattle.frames.specs.Info.{infoBytes};
 ghost use Rattle.frames.specs.Reading.{lenOf, overhears, verdictOf, checked, kindStatus, readFrame};
-ghost use Rattle.frames.specs.Sent.{sealed, sent, sendOf};
 ghost use Rattle.frames.specs.Stored.{newFrame, framed, begun, goes, wellOf, Well, wantedOf, After, Turned, outOf, ended, saidOf, seen, readOf, partOf};
 
 // The largest payload that a request may carry. With the 12 bytes of framing a full frame is 64 bytes.
@@ -465,42 +463,4 @@ pub fn read_request(frame: Frame, bytes: &[u8]) -> Taken
     ensures { λ r. ⌜ seen (r .frame .bytes) (r .frame .got) (r .taken) (r .stop) ≡ readOf 52 true (frame .bytes) (frame .got) (now (bytes .entry)) ⌝ }
 {
     read_frame(frame, true, bytes)
-}
-
-// The first k bytes, into a room that holds them.
-fn copy_out(f: &[u8], k: usize, room: &mut [u8])
-    requires { ⌜ (k ≤ length (now f)) × (k ≤ length (now room)) ⌝ }
-    ensures { λ r. ⌜ now (room .exit) ≡ over (take k (now (f .entry))) (now (room .entry)) ⌝ }
-{
-    bytes::copy(&f[..k], room);
-}
-
-// AA 55 at the start and the CRC right after n bytes of payload, for one write of the whole.
-fn seal(f: &mut [u8; 64], n: usize)
-    requires { ⌜ (n ≤ 52) × (length (now f) ≡ 64) ⌝ }
-    ensures { λ r. ⌜ now (f .exit) ≡ sealed n (now (f .entry)) ⌝ }
-{
-    f[0] = Sync::VALID.0;
-    f[1] = Sync::VALID.1;
-    let m = 10 + n;
-    let c = le::bytes16(body_crc(f, m));
-    f[m] = c[0];
-    f[m + 1] = c[1];
-}
-
-// Sends a frame into a lent room: how many bytes. A length above the capacity, or a room too small, sends nothing and changes nothing.
-pub fn send(f: &mut [u8; 64], room: &mut [u8]) -> usize
-    ensures { λ r. ⌜ sent r (now (f .exit)) (now (room .exit)) ≡ sendOf 52 (now (f .entry)) (now (room .entry)) ⌝ }
-{
-    let n = len(f);
-    if DEFAULT_PAYLOAD < n {
-        return 0;
-    }
-    let k = 12 + n;
-    if room.len() < k {
-        return 0;
-    }
-    seal(f, n);
-    copy_out(f, k, room);
-    k
 }

@@ -1,20 +1,29 @@
 use Prim.Native.Nat.{_+_, _≤_, _<_}
 use mathlib.Core.Path.{_≡_, _∙_}
 use lib.ListN.{length}
 use Rattle.frames.specs.Reading.{lenOf}
-use Rattle.frames.proofs.Sealing.{sealed-length, send-long, send-short, send-done}
+use Rattle.sending.proofs.Sealing.{sealed-length, send-long, send-short, send-done}
 use native.Mathlib.Omega.{arith}
 use borrow.Author.Needs.{needs}
-use Rattle.frames.proofs.frame.send.Statement.{statement}
-use Rattle.frames.proofs.frame.send.Tie as tie
+use Rattle.sending.proofs.send.Statement.{statement}
+use Rattle.sending.proofs.send.Tie as tie
 
-len-requires : tie.Need-len-requires
-len-requires c κs = search needs
+element-copy-out-read16 : tie.Need-element-copy-out-read16
+element-copy-out-read16 c = search needs
+
+element-copy-out-read16-2 : tie.Need-element-copy-out-read16-2
+element-copy-out-read16-2 c = search needs
+
+read16-requires : tie.Need-read16-requires
+read16-requires c κs = search needs
+
+cast-n : tie.Need-cast-n
+cast-n c = search needs
 
 returns : tie.Need-returns
 returns c =
     let a = c .before .before .before .before .before .args in
-    send-long (a .f .now) (a .room .now) (rw (c .before .len .ensures .0) at (c .if1 .taken))
+    send-long (a .f .now) (a .room .now) (rw (c .before .read16 .ensures) at (c .if1 .taken))
 
 add-k : tie.Need-add-k
 add-k c = search needs
@@ -22,7 +31,7 @@ add-k c = search needs
 returns-2 : tie.Need-returns-2
 returns-2 c =
     let a = c .before .before .before .before .before .before .args in
-    let e = c .before .before .len .ensures .0 in
+    let e = c .before .before .read16 .ensures in
     send-short (a .f .now) (a .room .now) (rw e at (c .before .if1 .left)) (rw e at (c .if2 .taken))
 
 seal-requires : tie.Need-seal-requires
@@ -37,7 +46,7 @@ same-length c = search needs
 returns-3 : tie.Need-returns-3
 returns-3 c =
     let a = c .before .before .before .before .before .before .before .before .before .before .before .before .before .before .args in
-    let e = c .before .before .before .before .before .before .before .before .before .before .len .ensures .0 in
+    let e = c .before .before .before .before .before .before .before .before .before .before .read16 .ensures in
     let l : length (a .f .now) ≡ 64 = search needs in
     let s : lenOf (a .f .now) ≤ 52 = rw e at (c .before .before .before .before .before .before .before .before .before .if1 .left) in
     let k : 12 + lenOf (a .f .now) ≤ length (a .room .now) = rw e at (c .before .before .before .before .before .before .before .before .if2 .left) in
@@ -48,7 +57,10 @@ pub send-spec : {M : Type 1} → statement M
 send-spec =
     tie.close
     (tie.spec
-    len-requires
+    element-copy-out-read16
+    element-copy-out-read16-2
+    read16-requires
+    cast-n
     returns
     add-k
     returns-2

@@ -9,8 +9,8 @@ use lib.ListN.{length, take}
 use lib.Seq.{length-take-le, take-all}
 use native.Mathlib.Omega.{arith}
 use borrow.Author.Needs.{needs}
-use Rattle.frames.proofs.frame.copy_out.Statement.{statement}
-use Rattle.frames.proofs.frame.copy_out.Tie as tie
+use Rattle.sending.proofs.copy_out.Statement.{statement}
+use Rattle.sending.proofs.copy_out.Tie as tie
 
 slice-aggregate-copy : tie.Need-slice-aggregate-copy
 slice-aggregate-copy c = sym (length-take-le _ _ (c .before .before .before .pre .0))

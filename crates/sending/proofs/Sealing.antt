@@ -11,9 +11,9 @@ use lib.Dec.{leb}
 use Rattle.laws.specs.Over.{over}
 use Rattle.laws.proofs.Lists.{over-set, over-over}
 use Rattle.tinyboot_protocol.specs.Crc.{crcOf}
 use Rattle.frames.specs.Reading.{lenOf}
 use Rattle.frames.specs.Stored.{ready}
-use Rattle.frames.specs.Sent.{wire, sealed, sent, sendOf}
+use Rattle.sending.specs.Sent.{wire, sealed, sent, sendOf}
 
 -- two bytes laid one after the other
 set-two : (l : List ℕ) (m a b : ℕ) → m + 1 < length l → set (set l m a) (m + 1) b ≡ over (take m l ++ (a ∷ b ∷ [])) l
