@@ -1,4 +1,5 @@
--- Where a setup, a state and an answer stand in the caller's bytes (include/tinyboot.h, Buffers). Numbers of several bytes stand low byte first.
+-- Where a setup, a state and an answer stand in the caller's bytes (tinyboot_c/include/tinyboot.h, Buffers). Numbers of several bytes stand low byte first.
+-- `cap` is the payload capacity, `page` the page size: the header has them at 52 and 64.
 use Prim.Native.Nat.{ℕ, _+_, _%_}
 use mathlib.Core.Bool.{Bool, true, false, _&&_}
 use mathlib.Core.List.{List, [], _∷_, _++_}
@@ -16,12 +17,16 @@ use Rattle.feed.specs.Feed.{stateWith}
 abbrev pub part : ℕ → ℕ → List ℕ → List ℕ
 part at n l = take n (drop at l)
 
+-- where a state's numbers stand: behind its frame and its page
+abbrev pub numbersAt : ℕ → ℕ → ℕ
+numbersAt cap page = 12 + cap + page
+
 -- how many bytes a setup, a state and an answer take
 abbrev pub setupSize : ℕ
 setupSize = 31
 
-abbrev pub stateSize : ℕ
-stateSize = 136
+abbrev pub stateSize : ℕ → ℕ → ℕ
+stateSize cap page = numbersAt cap page + 8
 
 abbrev pub answerSize : ℕ
 answerSize = 16
@@ -43,13 +48,15 @@ abbrev pub flagByte : Bool → ℕ
 flagByte b = pick b 1 0
 
 -- bytes that are a state's: as many, and each flag 0 or 1
-unfoldable pub holdsState : List ℕ → Bool
-holdsState l = eqb (length l) stateSize && (ltb (getD l 134 0) 2 && ltb (getD l 135 0) 2)
+unfoldable pub holdsState : ℕ → ℕ → List ℕ → Bool
+holdsState cap page l =
+    eqb (length l) (stateSize cap page) && (ltb (getD l (numbersAt cap page + 6) 0) 2 && ltb (getD l (numbersAt cap page + 7) 0) 2)
 
--- the state that 136 bytes stand for: the frame's 64 bytes, the page's 64, next, got, fill, selected, closed
-abbrev pub stateFrom : List ℕ → State
-stateFrom l =
-    stateWith (part 0 64 l) (getD l 132 0) (part 64 64 l) (getD l 133 0) (lowFirst (part 128 4 l)) (eqb (getD l 134 0) 1) (eqb (getD l 135 0) 1)
+-- the state that these bytes stand for: the frame's, the page's, next, got, fill, selected, closed
+abbrev pub stateFrom : ℕ → ℕ → List ℕ → State
+stateFrom cap page l =
+    stateWith (part 0 (12 + cap) l) (getD l (numbersAt cap page + 4) 0) (part (12 + cap) page l) (getD l (numbersAt cap page + 5) 0)
+    (lowFirst (part (numbersAt cap page) 4 l)) (eqb (getD l (numbersAt cap page + 6) 0) 1) (eqb (getD l (numbersAt cap page + 7) 0) 1)
 
 -- a state's numbers, in 8 bytes: of got and fill the low byte, which in a well-formed state is all of them
 abbrev pub numberBytes : ℕ → ℕ → ℕ → Bool → Bool → List ℕ

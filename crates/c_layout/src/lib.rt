@@ -9,8 +9,9 @@ ghost use lib.Dec.{eqb};
 ghost use lib.ListN.{length};
 ghost use Rattle.tinyboot_protocol.specs.Names.{modeNumber};
 ghost use Rattle.device.specs.Refusals.{refusalNumber};
+ghost use Rattle.device.specs.Starts.{newState};
 ghost use Rattle.dispatcher.specs.Answers.{mute, toldOf};
-ghost use Rattle.c_layout.specs.Layout.{setupSize, holdsState, flagByte, numberBytes, answerBytes, answered};
+ghost use Rattle.c_layout.specs.Layout.{setupSize, holdsState, flagByte, numberBytes, stateBytes, answerBytes, answered};
 ghost use Rattle.c_layout.specs.Inner.{toldBy};
 
 // What a call says.
@@ -30,7 +31,7 @@ pub fn holds_setup(setup: &[u8]) -> bool
 
 // Whether these bytes are a state's: as many, and flags that are 0 or 1.
 pub fn holds_state(state: &[u8]) -> bool
-    ensures { λ r. ⌜ r ≡ holdsState (now (state .entry)) ⌝ }
+    ensures { λ r. ⌜ r ≡ holdsState 52 64 (now (state .entry)) ⌝ }
 {
     if state.len() != 136 {
         return false;
@@ -64,6 +65,21 @@ pub fn number_bytes(got: usize, fill: usize, next: u32, selected: bool, closed: 
 }
 
 // What a state has beside its arrays, laid where it stands.
+// The bytes of a new state: AA 55 in an empty frame, an empty page, and no write pending.
+pub fn new_bytes(closed: bool) -> [u8; 136]
+    ensures { λ r. ⌜ r ≡ stateBytes (newState 52 64 closed) ⌝ }
+{
+    let mut new = [0u8; 136];
+    new[0] = 0xAA;
+    new[1] = 0x55;
+    new[128] = 0xFF;
+    new[129] = 0xFF;
+    new[130] = 0xFF;
+    new[131] = 0xFF;
+    new[135] = flag(closed);
+    new
+}
+
 pub fn unsaid(number: u8) -> Said
     ensures { λ r. ⌜ (r .number ≡ number) × (r .len ≡ 0) × (r .wait ≡ 0) × (r .mode ≡ 1) ⌝ }
 {

@@ -11,7 +11,8 @@ use Rattle.laws.specs.Over.{over}
 use Rattle.frames.specs.Stored.{wellOf}
 use Rattle.device.specs.declared.Setup.{Setup}
 use Rattle.device.specs.Refusals.{setUp, runFits, wellFormed, lengthsOf, refusalOf}
-use Rattle.device.specs.Starts.{Left, newState, startRefusal, startedOf}
+use Rattle.tinyboot_core.specs.Start.{Decision, startOf}
+use Rattle.device.specs.Starts.{Left, left, decidedTo, newState, startRefusal, startedOf}
 use Rattle.dispatcher.specs.Answers.{Told, mute, toldOf}
 use Rattle.feed.specs.Feed.{fedOf}
 use Rattle.c_layout.specs.Layout.{setupFrom, holdsState, stateFrom, numberBytes, partBytes, stateBytes, answerBytes}
@@ -24,11 +25,11 @@ yes t a b e = ap (λ (u : Bool). pick u a b) (sym e)
 no : {A : Type 0} (t : Bool) (a b : A) → t ≡ false → b ≡ pick t a b
 no t a b e = ap (λ (u : Bool). pick u a b) (sym e)
 
-pub new-refused : (s : List ℕ) → (length s ≡ 136 → ⊥) → Calls.afterNew 11 s ≡ Calls.cNew s
+pub new-refused : (s : List ℕ) → (length s ≡ 136 → ⊥) → Calls.afterNew 11 s ≡ Calls.cNew 52 64 s
 unfolding Calls.cNew
 new-refused s h = no (eqb (length s) 136) (Calls.afterNew 0 (stateBytes (newState 52 64 false))) (Calls.afterNew 11 s) (ne-eqb (length s) 136 h)
 
-pub new-laid : (s : List ℕ) → length s ≡ 136 → Calls.afterNew 0 (stateBytes (newState 52 64 false)) ≡ Calls.cNew s
+pub new-laid : (s : List ℕ) → length s ≡ 136 → Calls.afterNew 0 (stateBytes (newState 52 64 false)) ≡ Calls.cNew 52 64 s
 unfolding Calls.cNew
 new-laid s h = yes (eqb (length s) 136) (Calls.afterNew 0 (stateBytes (newState 52 64 false))) (Calls.afterNew 11 s) (eq-eqb (length s) 136 h)
 
@@ -38,42 +39,42 @@ module _ (setup state bytes flash meta reply answer : List ℕ) where
   kept number = Calls.feedRefused number state flash meta reply answer
 
   abbrev called : Calls.AfterFeed
-  called = Calls.feedCalled (fedOf 52 64 (setupFrom setup) (stateFrom state) bytes flash meta reply) answer
+  called = Calls.feedCalled (fedOf 52 64 (setupFrom setup) (stateFrom 52 64 state) bytes flash meta reply) answer
 
   abbrev short : Calls.AfterFeed
-  short = kept (Calls.roomless (setupFrom setup) (stateFrom state) (length flash) (length meta))
+  short = kept (Calls.roomless 52 64 (setupFrom setup) (stateFrom 52 64 state) (length flash) (length meta))
 
   abbrev whole : Calls.AfterFeed
-  whole = Calls.cFed setup state bytes flash meta reply answer
+  whole = Calls.cFed 52 64 setup state bytes flash meta reply answer
 
   pub feed-no-setup : eqb (length setup) 31 ≡ false → kept 10 ≡ whole
   unfolding Calls.cFed
   feed-no-setup h =
-      no (eqb (length setup) 31) (pick (holdsState state) (pick (ltb (length answer) 16) short called) (kept 11)) (kept 10) h
+      no (eqb (length setup) 31) (pick (holdsState 52 64 state) (pick (ltb (length answer) 16) short called) (kept 11)) (kept 10) h
 
   module _ (h : eqb (length setup) 31 ≡ true) where
-    held : (x : Calls.AfterFeed) → x ≡ pick (holdsState state) (pick (ltb (length answer) 16) short called) (kept 11) → x ≡ whole
+    held : (x : Calls.AfterFeed) → x ≡ pick (holdsState 52 64 state) (pick (ltb (length answer) 16) short called) (kept 11) → x ≡ whole
     unfolding Calls.cFed
     held x e =
-        e ∙ yes (eqb (length setup) 31) (pick (holdsState state) (pick (ltb (length answer) 16) short called) (kept 11)) (kept 10) h
+        e ∙ yes (eqb (length setup) 31) (pick (holdsState 52 64 state) (pick (ltb (length answer) 16) short called) (kept 11)) (kept 10) h
 
-    pub feed-no-state : holdsState state ≡ false → kept 11 ≡ whole
-    feed-no-state k = held (kept 11) (no (holdsState state) (pick (ltb (length answer) 16) short called) (kept 11) k)
+    pub feed-no-state : holdsState 52 64 state ≡ false → kept 11 ≡ whole
+    feed-no-state k = held (kept 11) (no (holdsState 52 64 state) (pick (ltb (length answer) 16) short called) (kept 11) k)
 
-    pub feed-short : holdsState state ≡ true → (q : length answer < 16) → (r : ℕ) →
-        r ≡ Calls.roomless (setupFrom setup) (stateFrom state) (length flash) (length meta) →
+    pub feed-short : holdsState 52 64 state ≡ true → (q : length answer < 16) → (r : ℕ) →
+        r ≡ Calls.roomless 52 64 (setupFrom setup) (stateFrom 52 64 state) (length flash) (length meta) →
         Calls.afterFeed r state flash meta reply answer ≡ whole
     feed-short k q r e =
-        let number : ℕ = Calls.roomless (setupFrom setup) (stateFrom state) (length flash) (length meta) in
+        let number : ℕ = Calls.roomless 52 64 (setupFrom setup) (stateFrom 52 64 state) (length flash) (length meta) in
         ap (λ (v : ℕ). Calls.afterFeed v state flash meta reply answer) e ∙
         ap (λ (v : List ℕ). Calls.afterFeed number state flash meta reply v) (answer-short (mute number) 0 answer q) ∙
         held short
-        (yes (ltb (length answer) 16) short called (lt-ltb (length answer) 16 q) ∙ yes (holdsState state) (pick (ltb (length answer) 16) short called) (kept 11) k)
+        (yes (ltb (length answer) 16) short called (lt-ltb (length answer) 16 q) ∙ yes (holdsState 52 64 state) (pick (ltb (length answer) 16) short called) (kept 11) k)
 
-    pub feed-called : holdsState state ≡ true → 16 ≤ length answer → (x : Calls.AfterFeed) → x ≡ called → x ≡ whole
+    pub feed-called : holdsState 52 64 state ≡ true → 16 ≤ length answer → (x : Calls.AfterFeed) → x ≡ called → x ≡ whole
     feed-called k q x e =
         e ∙ held called
-        (no (ltb (length answer) 16) short called (le-ltb (length answer) 16 q) ∙ yes (holdsState state) (pick (ltb (length answer) 16) short called) (kept 11) k)
+        (no (ltb (length answer) 16) short called (le-ltb (length answer) 16 q) ∙ yes (holdsState 52 64 state) (pick (ltb (length answer) 16) short called) (kept 11) k)
 
 -- what the code of a start leaves: a new state, or the one that stood there
 module _ (x y : Left) (e : x ≡ y) (s answer : List ℕ) (r : ℕ) (k : r ≡ x .answer) (a : List ℕ)
@@ -90,6 +91,23 @@ module _ (x y : Left) (e : x ≡ y) (s answer : List ℕ) (r : ℕ) (k : r ≡ x
 
   pub start-kept : eqb (x .answer) 0 ≡ false → Calls.afterStart r s (x .meta) a ≡ Calls.startCalled y s answer
   start-kept t = said s (no (eqb (x .answer) 0) (stateBytes (x .state)) s t)
+
+-- a start leaves a new state, open or closed
+pub new-always : (cap page : ℕ) (s : Setup) (mode : ℕ) (flash meta : List ℕ) →
+    startedOf cap page s mode flash meta .state ≡ newState cap page (startedOf cap page s mode flash meta .state .closed)
+unfolding startedOf
+new-always cap page s mode flash meta =
+    go (eqb (startRefusal page s (length flash) (length meta)) 0) (startOf (s .capacity) mode flash meta) (startRefusal page s (length flash) (length meta))
+  where
+    go : (t : Bool) (d : Decision) (n : ℕ) → pick t (decidedTo cap page d) (left cap page n 1 true meta) .state ≡
+        newState cap page (pick t (decidedTo cap page d) (left cap page n 1 true meta) .state .closed)
+    go true d n = refl
+    go false d n = refl
+
+pub new-started : (x : Left) (cap page : ℕ) (s : Setup) (mode : ℕ) (flash meta : List ℕ) → x ≡ startedOf cap page s mode flash meta →
+    newState cap page (x .state .closed) ≡ x .state
+new-started x cap page s mode flash meta e =
+    ap (λ (v : Left). newState cap page (v .state .closed)) e ∙ sym (new-always cap page s mode flash meta) ∙ ap (λ (v : Left). v .state) (sym e)
 
 pub asked-app : (m : ℕ) → m ≡ 0 → 0 ≡ Calls.asked m
 asked-app m e = yes (eqb m 0) 0 1 (eq-eqb m 0 e)
@@ -127,7 +145,7 @@ module _ (mode : ℕ) (setup state flash meta answer : List ℕ) where
   unanswered = unstarted (Calls.orNoRoom (startRefusal 64 (setupFrom setup) (length flash) (length meta)))
 
   abbrev all : Calls.AfterStart
-  all = Calls.cStarted mode setup state flash meta answer
+  all = Calls.cStarted 52 64 mode setup state flash meta answer
 
   pub start-no-setup : eqb (length setup) 31 ≡ false → unstarted 10 ≡ all
   unfolding Calls.cStarted

@@ -79,7 +79,7 @@ module _ (f p : List ℕ) (lf : length f ≡ 64) (lp : length p ≡ 64) (got fil
   closed-read : eqb (getD l 135 0) 1 ≡ closed
   closed-read = ap (λ (v : ℕ). eqb v 1) (number-at f p n lf lp 7) ∙ flag-read closed
 
-  parts-read : stateFrom l ≡ stateWith f got p fill next selected closed
+  parts-read : stateFrom 52 64 l ≡ stateWith f got p fill next selected closed
   parts-read =
       ap (λ (v : List ℕ). stateWith v (getD l 132 0) (part 64 64 l) (getD l 133 0) (lowFirst (part 128 4 l)) (eqb (getD l 134 0) 1) (eqb (getD l 135 0) 1)) (first-part f p n lf lp) ∙
       ap (λ (v : List ℕ). stateWith f (getD l 132 0) v (getD l 133 0) (lowFirst (part 128 4 l)) (eqb (getD l 134 0) 1) (eqb (getD l 135 0) 1)) (second-part f p n lf lp) ∙
@@ -90,11 +90,11 @@ module _ (f p : List ℕ) (lf : length f ≡ 64) (lp : length p ≡ 64) (got fil
       ap (λ (v : Bool). stateWith f got p fill next selected v) closed-read
 
 pub written-read : (s : State) → length (s .frame .bytes) ≡ 64 → length (s .page) ≡ 64 → s .frame .got < 256 → s .fill < 256 → s .next < 256 ^ 4 →
-    stateFrom (stateBytes s) ≡ s
+    stateFrom 52 64 (stateBytes s) ≡ s
 written-read s lf lp hg hf hn = parts-read (s .frame .bytes) (s .page) lf lp (s .frame .got) (s .fill) (s .next) (s .selected) (s .closed) hg hf hn
 
 -- read, then written
-module _ (l : List ℕ) (h : holdsState l ≡ true) (byte : (i : ℕ) → i < length l → getD l i 0 < 256) where
+module _ (l : List ℕ) (h : holdsState 52 64 l ≡ true) (byte : (i : ℕ) → i < length l → getD l i 0 < 256) where
   size : length l ≡ 136
   size = holds-size l h
 
@@ -117,7 +117,7 @@ module _ (l : List ℕ) (h : holdsState l ≡ true) (byte : (i : ℕ) → i < le
   next-written : lowBytes 4 (lowFirst q) ≡ q
   next-written = ap (λ (k : ℕ). lowBytes k (lowFirst q)) (sym four) ∙ low-write q q-byte
 
-  numbers-written : stateBytes (stateFrom l) ≡ part 0 64 l ++ (part 64 64 l ++ (q ++ part 132 4 l))
+  numbers-written : stateBytes (stateFrom 52 64 l) ≡ part 0 64 l ++ (part 64 64 l ++ (q ++ part 132 4 l))
   numbers-written =
       let g : getD l 132 0 % 256 ≡ getD l 132 0 = mod-eq-of-lt (byte 132 (rw size (omega arith))) in
       let w : getD l 133 0 % 256 ≡ getD l 133 0 = mod-eq-of-lt (byte 133 (rw size (omega arith))) in
@@ -131,7 +131,7 @@ module _ (l : List ℕ) (h : holdsState l ≡ true) (byte : (i : ℕ) → i < le
           a ++ (b ++ (x ++ (g ∷ w ∷ s ∷ c ∷ []))) ≡ a ++ (b ++ (y ++ z))
       numbers-same x y a b e g g' w w' s s' c c' eg ew es ec {z} ez = rw (e, eg, ew, es, ec, ez) refl
 
-  pub read-written : stateBytes (stateFrom l) ≡ l
+  pub read-written : stateBytes (stateFrom 52 64 l) ≡ l
   read-written =
       let rest : part 132 4 l ≡ drop 132 l = take-all 4 (drop 132 l) (rw (length-drop 132 l, size) (omega arith)) in
       let three : q ++ part 132 4 l ≡ drop 128 l =
@@ -178,15 +178,15 @@ well-small capacity s e =
     (omega (arith, g), omega (arith, f))
 
 -- a call that the device refuses leaves every buffer but the answer's as it was
-pub refused-kept : (setup state bytes flash meta reply answer : List ℕ) → holdsState state ≡ true → ((i : ℕ) → i < length state → getD state i 0 < 256) →
-    eqb (refusalFor 52 64 (setupFrom setup) (stateFrom state) flash meta reply) 0 ≡ false →
-    feedCalled (fedOf 52 64 (setupFrom setup) (stateFrom state) bytes flash meta reply) answer ≡
-    afterFeed (refusalFor 52 64 (setupFrom setup) (stateFrom state) flash meta reply) state flash meta reply
-    (over (answerBytes (mute (refusalFor 52 64 (setupFrom setup) (stateFrom state) flash meta reply)) 0) answer)
+pub refused-kept : (setup state bytes flash meta reply answer : List ℕ) → holdsState 52 64 state ≡ true → ((i : ℕ) → i < length state → getD state i 0 < 256) →
+    eqb (refusalFor 52 64 (setupFrom setup) (stateFrom 52 64 state) flash meta reply) 0 ≡ false →
+    feedCalled (fedOf 52 64 (setupFrom setup) (stateFrom 52 64 state) bytes flash meta reply) answer ≡
+    afterFeed (refusalFor 52 64 (setupFrom setup) (stateFrom 52 64 state) flash meta reply) state flash meta reply
+    (over (answerBytes (mute (refusalFor 52 64 (setupFrom setup) (stateFrom 52 64 state) flash meta reply)) 0) answer)
 unfolding fedOf
 refused-kept setup state bytes flash meta reply answer h byte e =
-    let n : ℕ = refusalFor 52 64 (setupFrom setup) (stateFrom state) flash meta reply in
-    let x : Called = takenOf 52 64 (setupFrom setup) (stateFrom state) bytes flash meta reply in
-    let y : Called = refusedBy n (stateFrom state) flash meta reply in
+    let n : ℕ = refusalFor 52 64 (setupFrom setup) (stateFrom 52 64 state) flash meta reply in
+    let x : Called = takenOf 52 64 (setupFrom setup) (stateFrom 52 64 state) bytes flash meta reply in
+    let y : Called = refusedBy n (stateFrom 52 64 state) flash meta reply in
     ap (λ (t : Bool). feedCalled (pick t x y) answer) e ∙
     ap (λ (v : List ℕ). afterFeed n v flash meta reply (over (answerBytes (mute n) 0) answer)) (read-written state h byte)

@@ -68,7 +68,7 @@ byte-answered said k result kr state f m r answer laid kl x e =
     let z : result ≡ 0 = kr ∙ ap (λ (v : Told). v .number) k in
     rw (z, kl, k) e
 
-module _ (setup state : List ℕ) (h : holdsState state ≡ true) (byte : (i : ℕ) → i < length state → getD state i 0 < 256) (b flash meta room : ℕ) (after : List ℕ)
+module _ (setup state : List ℕ) (h : holdsState 52 64 state ≡ true) (byte : (i : ℕ) → i < length state → getD state i 0 < 256) (b flash meta room : ℕ) (after : List ℕ)
     (e : laidTo true after ≡ byteOn 52 64 (setupFrom setup .«erase_size») (setupFrom setup .capacity) (setupFrom setup .«id_len») (getD state 132 0)
     (getD state 133 0) (lowFirst (part 128 4 state)) (eqb (getD state 135 0) 1) state b flash meta room) where
   abbrev got : ℕ

@@ -33,21 +33,21 @@ abbrev pub feedRefused : ℕ → List ℕ → List ℕ → List ℕ → List ℕ
 feedRefused number state flash meta reply answer = afterFeed number state flash meta reply (answered (mute number) 0 answer)
 
 -- the refusal where there is no room for an answer: as with none for a reply
-abbrev pub roomless : Setup → State → ℕ → ℕ → ℕ
-roomless s st flash meta = refusalOf 52 64 s (st .frame .bytes) (st .frame .got) (st .fill) (st .next) (st .closed) flash meta 0
+abbrev pub roomless : ℕ → ℕ → Setup → State → ℕ → ℕ → ℕ
+roomless cap page s st flash meta = refusalOf cap page s (st .frame .bytes) (st .frame .got) (st .fill) (st .next) (st .closed) flash meta 0
 
 -- what the device's call left, in the buffers
 abbrev pub feedCalled : Called → List ℕ → AfterFeed
 feedCalled c answer =
     afterFeed (c .told .number) (stateBytes (c .state)) (c .flash) (c .meta) (c .room) (over (answerBytes (c .told) (c .taken)) answer)
 
-unfoldable pub cFed : List ℕ → List ℕ → List ℕ → List ℕ → List ℕ → List ℕ → List ℕ → AfterFeed
-cFed setup state bytes flash meta reply answer =
+unfoldable pub cFed : ℕ → ℕ → List ℕ → List ℕ → List ℕ → List ℕ → List ℕ → List ℕ → List ℕ → AfterFeed
+cFed cap page setup state bytes flash meta reply answer =
     pick (eqb (length setup) setupSize)
-    (pick (holdsState state)
+    (pick (holdsState cap page state)
     (pick (ltb (length answer) answerSize)
-    (feedRefused (roomless (setupFrom setup) (stateFrom state) (length flash) (length meta)) state flash meta reply answer)
-    (feedCalled (fedOf 52 64 (setupFrom setup) (stateFrom state) bytes flash meta reply) answer))
+    (feedRefused (roomless cap page (setupFrom setup) (stateFrom cap page state) (length flash) (length meta)) state flash meta reply answer)
+    (feedCalled (fedOf cap page (setupFrom setup) (stateFrom cap page state) bytes flash meta reply) answer))
     (feedRefused 11 state flash meta reply answer))
     (feedRefused 10 state flash meta reply answer)
 
@@ -82,13 +82,13 @@ startCalled x state answer =
     afterStart (x .answer) (pick (eqb (x .answer) 0) (stateBytes (x .state)) state) (x .meta)
     (over (answerBytes (startTold (x .answer) (x .mode)) 0) answer)
 
-unfoldable pub cStarted : ℕ → List ℕ → List ℕ → List ℕ → List ℕ → List ℕ → AfterStart
-cStarted mode setup state flash meta answer =
+unfoldable pub cStarted : ℕ → ℕ → ℕ → List ℕ → List ℕ → List ℕ → List ℕ → List ℕ → AfterStart
+cStarted cap page mode setup state flash meta answer =
     pick (eqb (length setup) setupSize)
-    (pick (eqb (length state) stateSize)
+    (pick (eqb (length state) (stateSize cap page))
     (pick (ltb (length answer) answerSize)
-    (startRefused (orNoRoom (startRefusal 64 (setupFrom setup) (length flash) (length meta))) state meta answer)
-    (startCalled (startedOf 52 64 (setupFrom setup) (asked mode) flash meta) state answer))
+    (startRefused (orNoRoom (startRefusal page (setupFrom setup) (length flash) (length meta))) state meta answer)
+    (startCalled (startedOf cap page (setupFrom setup) (asked mode) flash meta) state answer))
     (startRefused 11 state meta answer))
     (startRefused 10 state meta answer)
 
@@ -100,5 +100,5 @@ pub record AfterNew : Type 0 where
 abbrev pub afterNew : ℕ → List ℕ → AfterNew
 afterNew result state = record { result = result; state = state }
 
-unfoldable pub cNew : List ℕ → AfterNew
-cNew state = pick (eqb (length state) stateSize) (afterNew 0 (stateBytes (newState 52 64 false))) (afterNew 11 state)
+unfoldable pub cNew : ℕ → ℕ → List ℕ → AfterNew
+cNew cap page state = pick (eqb (length state) (stateSize cap page)) (afterNew 0 (stateBytes (newState cap page false))) (afterNew 11 state)

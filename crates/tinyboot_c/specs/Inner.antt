@@ -23,4 +23,4 @@ abbrev pub ByteFed : List ℕ → List ℕ → List ℕ → ℕ → ℕ → ℕ 
 ByteFed setup state bytes flash meta room after false = after ≡ state
 ByteFed setup state bytes flash meta room after true =
     (f m r answer : List ℕ) → length f ≡ flash → length m ≡ meta → length r ≡ room →
-    afterFeed 0 after f m r (over (answerBytes (mute 0) 1) answer) ≡ feedCalled (fedOf 52 64 (setupFrom setup) (stateFrom state) bytes f m r) answer
+    afterFeed 0 after f m r (over (answerBytes (mute 0) 1) answer) ≡ feedCalled (fedOf 52 64 (setupFrom setup) (stateFrom 52 64 state) bytes f m r) answer

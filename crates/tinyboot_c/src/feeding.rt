@@ -25,7 +25,7 @@ ghost use mathlib.Core.Bool.{true};
 // With no room for an answer: as if there were none for a reply.
 pub(crate) fn unanswered(setup: Setup, state: &[u8], flash: usize, meta: usize) -> u8
     requires { ⌜ length (now state) ≡ 136 ⌝ }
-    ensures { λ r. ⌜ r ≡ roomless setup (stateFrom (now (state .entry))) flash meta ⌝ }
+    ensures { λ r. ⌜ r ≡ roomless 52 64 setup (stateFrom 52 64 (now (state .entry))) flash meta ⌝ }
 {
     let mut f = [0u8; 64];
     fetch(state, 0, &mut f);
@@ -43,7 +43,7 @@ fn fed_byte(
     room: usize,
 ) -> bool
     requires { ⌜ length (now setup) ≡ 31 ⌝ }
-    requires { ⌜ holdsState (now state) ≡ true ⌝ }
+    requires { ⌜ holdsState 52 64 (now state) ≡ true ⌝ }
     ensures { λ r. ⌜ ByteFed (now (setup .entry)) (now (state .entry)) (now (bytes .entry)) flash meta room (now (state .exit)) r ⌝ }
 {
     if bytes.len() != 1 {
@@ -86,7 +86,7 @@ fn fed_piece(
     requires { ⌜ length (now state) ≡ 136 ⌝ }
     requires { ⌜ 16 ≤ length (now answer) ⌝ }
     ensures { λ r. ⌜ afterFeed r (now (state .exit)) (now (flash .exit)) (now (meta .exit)) (now (reply .exit)) (now (answer .exit)) ≡
-        feedCalled (fedOf 52 64 setup (stateFrom (now (state .entry))) (now (bytes .entry)) (now (flash .entry)) (now (meta .entry)) (now (reply .entry))) (now (answer .entry)) ⌝ }
+        feedCalled (fedOf 52 64 setup (stateFrom 52 64 (now (state .entry))) (now (bytes .entry)) (now (flash .entry)) (now (meta .entry)) (now (reply .entry))) (now (answer .entry)) ⌝ }
 {
     let n = numbers_from(state);
     let p = feed_on(
@@ -117,10 +117,10 @@ pub(crate) fn fed(
     answer: &mut [u8],
 ) -> u8
     requires { ⌜ length (now setup) ≡ 31 ⌝ }
-    requires { ⌜ holdsState (now state) ≡ true ⌝ }
+    requires { ⌜ holdsState 52 64 (now state) ≡ true ⌝ }
     requires { ⌜ 16 ≤ length (now answer) ⌝ }
     ensures { λ r. ⌜ afterFeed r (now (state .exit)) (now (flash .exit)) (now (meta .exit)) (now (reply .exit)) (now (answer .exit)) ≡
-        feedCalled (fedOf 52 64 (setupFrom (now (setup .entry))) (stateFrom (now (state .entry))) (now (bytes .entry)) (now (flash .entry)) (now (meta .entry)) (now (reply .entry))) (now (answer .entry)) ⌝ }
+        feedCalled (fedOf 52 64 (setupFrom (now (setup .entry))) (stateFrom 52 64 (now (state .entry))) (now (bytes .entry)) (now (flash .entry)) (now (meta .entry)) (now (reply .entry))) (now (answer .entry)) ⌝ }
 {
     if fed_byte(setup, state, bytes, flash.len(), meta.len(), reply.len()) {
         return lay_answer(answer, unsaid(0), 1);

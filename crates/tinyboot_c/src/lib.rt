@@ -5,11 +5,10 @@ mod starting;
 mod state;
 
 use crate::layout::setup_from;
-use crate::state::lay_state;
+use crate::state::lay_new;
 use c_layout::holds_setup;
 use c_layout::holds_state;
 use c_layout::refuse;
-use device::start::new_state;
 use tinyboot_protocol::crc::crc16;
 ghost use mathlib.Core.Path.{_≡_};
 ghost use Rattle.tinyboot_protocol.specs.Crc.{crcFrom};
@@ -19,7 +18,7 @@ ghost use Rattle.tinyboot_c.specs.Calls.{afterNew, cNew, afterFeed, cFed
 // How many bytes a state takes.
 #[no_mangle]
 pub extern "C" fn tinyboot_state_size() -> usize
-    ensures { λ r. ⌜ r ≡ stateSize ⌝ }
+    ensures { λ r. ⌜ r ≡ stateSize 52 64 ⌝ }
 {
     136
 }
@@ -35,13 +34,12 @@ pub extern "C" fn tinyboot_crc16(crc: u16, bytes: &[u8]) -> u16
 // An open new state, where the buffer is as long as a state.
 #[no_mangle]
 pub extern "C" fn tinyboot_new_state(state: &mut [u8]) -> u8
-    ensures { λ r. ⌜ afterNew r (now (state .exit)) ≡ cNew (now (state .entry)) ⌝ }
+    ensures { λ r. ⌜ afterNew r (now (state .exit)) ≡ cNew 52 64 (now (state .entry)) ⌝ }
 {
     if state.len() != 136 {
         return 11;
     }
-    let new = new_state(false);
-    lay_state(state, new);
+    lay_new(state, false);
     0
 }
 
@@ -57,7 +55,7 @@ pub extern "C" fn tinyboot_feed(
     answer: &mut [u8],
 ) -> u8
     ensures { λ r. ⌜ afterFeed r (now (state .exit)) (now (flash .exit)) (now (meta .exit)) (now (reply .exit)) (now (answer .exit)) ≡
-        cFed (now (setup .entry)) (now (state .entry)) (now (bytes .entry)) (now (flash .entry)) (now (meta .entry)) (now (reply .entry)) (now (answer .entry)) ⌝ }
+        cFed 52 64 (now (setup .entry)) (now (state .entry)) (now (bytes .entry)) (now (flash .entry)) (now (meta .entry)) (now (reply .entry)) (now (answer .entry)) ⌝ }
 {
     if !holds_setup(setup) {
         return refuse(answer, 10);
@@ -83,7 +81,7 @@ pub extern "C" fn tinyboot_start(
     answer: &mut [u8],
 ) -> u8
     ensures { λ r. ⌜ afterStart r (now (state .exit)) (now (meta .exit)) (now (answer .exit)) ≡
-        cStarted mode (now (setup .entry)) (now (state .entry)) (now (flash .entry)) (now (meta .entry)) (now (answer .entry)) ⌝ }
+        cStarted 52 64 mode (now (setup .entry)) (now (state .entry)) (now (flash .entry)) (now (meta .entry)) (now (answer .entry)) ⌝ }
 {
     if !holds_setup(setup) {
         return refuse(answer, 10);

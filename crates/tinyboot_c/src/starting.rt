@@ -1,5 +1,5 @@
 // A start with buffers that hold a setup, and are as long as a state.
-use crate::state::lay_state;
+use crate::state::lay_new;
 use c_layout::Said;
 use c_layout::lay_answer;
 use c_layout::mode_number;
@@ -69,7 +69,7 @@ pub(crate) fn started(
     let decision = s.mode;
     if refusal.is_none() {
         let new = s.state;
-        lay_state(state, new);
+        lay_new(state, new.closed);
         return lay_start(answer, refusal, decision);
     }
     lay_start(answer, refusal, decision)

@@ -2,13 +2,14 @@
 use crate::layout::four;
 use crate::layout::lay;
 use crate::layout::wide;
+use c_layout::new_bytes;
 use c_layout::number_bytes;
-use device::State;
 ghost use mathlib.Core.Path.{_≡_};
 ghost use Prim.Native.Nat.{_≤_, _+_};
 ghost use lib.ListN.{length};
 ghost use lib.Seq.{paste};
-ghost use Rattle.c_layout.specs.Layout.{part, numberBytes, partBytes, stateBytes};
+ghost use Rattle.c_layout.specs.Layout.{part, numberBytes, stateBytes};
+ghost use Rattle.device.specs.Starts.{newState};
 ghost use Rattle.tinyboot_c.specs.Inner.{numbersFrom};
 
 // What a state has beside its arrays.
@@ -61,46 +62,11 @@ pub(crate) fn lay_numbers(
     lay(s, 128, &n);
 }
 
-// A state laid over bytes that are as many as its own. It goes through locals: of those the compiler knows that they are not a part of the slice, and
-// copies them whole.
-pub(crate) fn lay_parts(
-    s: &mut [u8],
-    f: &[u8; 64],
-    page: &[u8; 64],
-    got: usize,
-    fill: usize,
-    next: u32,
-    selected: bool,
-    closed: bool,
-)
+// A new state, laid over bytes that are as many as a state's.
+pub(crate) fn lay_new(s: &mut [u8], closed: bool)
     requires { ⌜ length (now s) ≡ 136 ⌝ }
-    ensures { λ r. ⌜ now (s .exit) ≡ partBytes (now (f .entry)) (now (page .entry)) (numberBytes got fill next selected closed) ⌝ }
+    ensures { λ r. ⌜ now (s .exit) ≡ stateBytes (newState 52 64 closed) ⌝ }
 {
-    let mut a = [0u8; 64];
-    let mut p = [0u8; 64];
-    fetch(f, 0, &mut a);
-    fetch(page, 0, &mut p);
-    let n = number_bytes(got, fill, next, selected, closed);
-    lay(s, 0, &a);
-    lay(s, 64, &p);
-    lay(s, 128, &n);
-}
-
-pub(crate) fn lay_state(s: &mut [u8], state: State)
-    requires { ⌜ length (now s) ≡ 136 ⌝ }
-    ensures { λ r. ⌜ now (s .exit) ≡ stateBytes state ⌝ }
-{
-    let frame = state.frame;
-    let f = frame.bytes;
-    let page = state.page;
-    lay_parts(
-        s,
-        &f,
-        &page,
-        frame.got,
-        state.fill,
-        state.next,
-        state.selected,
-        state.closed,
-    );
+    let new = new_bytes(closed);
+    lay(s, 0, &new);
 }

@@ -7,19 +7,14 @@ use Rattle.tinyboot_c.proofs.tinyboot_new_state.Tie as tie
 returns : tie.Need-returns
 returns c = new-refused (c .before .before .args .state .now) (c .if1 .taken)
 
-new-state-requires : tie.Need-new-state-requires
-new-state-requires c κs = search needs
-
-lay-state-requires : tie.Need-lay-state-requires
-lay-state-requires c κs = search needs
+lay-new-requires : tie.Need-lay-new-requires
+lay-new-requires c κs = search needs
 
 same-length : tie.Need-same-length
 same-length c = search needs
 
 returns-2 : tie.Need-returns-2
-returns-2 c =
-    rw (c .before .before .lay-state .ensures, c .before .before .before .before .new-state .ensures) (new-laid (c .before .before .before .before .before .before .before .args .state .now) (c .before .before .before .before .before .if1 .left))
+returns-2 c = rw (c .before .before .lay-new .ensures) (new-laid (c .before .before .before .before .before .before .args .state .now) (c .before .before .before .before .if1 .left))
 
 pub tinyboot-new-state-spec : {M : Type 1} → statement M
-tinyboot-new-state-spec =
-    tie.close (tie.spec returns new-state-requires lay-state-requires same-length returns-2)
+tinyboot-new-state-spec = tie.close (tie.spec returns lay-new-requires same-length returns-2)

@@ -1,3 +1,9 @@
+use mathlib.Core.List.{List}
+use Prim.Native.Nat.{ℕ}
+use Rattle.device.specs.declared.Setup.{Setup}
+use Rattle.feed.specs.Feed.{fedOf}
+use Rattle.c_layout.specs.Layout.{setupFrom, stateFrom}
+use Rattle.tinyboot_c.specs.Calls.{AfterFeed, feedCalled}
 use mathlib.Core.Path.{_≡_, refl, ap, sym, _∙_}
 use lib.ListN.{length}
 use Rattle.dispatcher.specs.Answers.{mute}
@@ -60,8 +66,12 @@ same-length-7 c = search needs
 
 returns-2 : tie.Need-returns-2
 returns-2 c =
-    let e = rw (c .before .before .before .before .before .before .before .before .before .before .before .before .before .before .before .before .before .if1 .left) at (c .before .before .before .before .before .before .before .before .before .before .before .before .before .before .before .before .before .before .before .before .fed-byte .ensures) in
-    rw (c .before .before .before .before .before .before .before .before .before .before .before .before .before .before .before .before .setup-from .ensures, e) at (c .before .before .before .before .before .before .before .before .before .before .fed-piece .ensures)
+    let a = c .before .before .before .before .before .before .before .before .before .before .before .before .before .before .before .before .before .before .before .before .before .before .before .before .before .before .before .before .before .args in
+    let left : Setup → List ℕ → AfterFeed =
+            λ s v. feedCalled (fedOf 52 64 s (stateFrom 52 64 v) (a .bytes .now) (a .flash .now) (a .meta .now) (a .reply .now)) (a .answer .now) in
+    let state : List ℕ = c .before .before .before .before .before .before .before .before .before .before .before .before .before .before .before .before .before .before .before .before .fed-byte .last .1 .0 in
+    let e : state ≡ a .state .now = rw (c .before .before .before .before .before .before .before .before .before .before .before .before .before .before .before .before .before .if1 .left) at (c .before .before .before .before .before .before .before .before .before .before .before .before .before .before .before .before .before .before .before .before .fed-byte .ensures) in
+    c .before .before .before .before .before .before .before .before .before .before .fed-piece .ensures ∙ ap (λ (s : Setup). left s state) (c .before .before .before .before .before .before .before .before .before .before .before .before .before .before .before .before .setup-from .ensures) ∙ ap (left (setupFrom (a .setup .now))) e
 
 pub fed-spec : {M : Type 1} → statement M
 fed-spec =

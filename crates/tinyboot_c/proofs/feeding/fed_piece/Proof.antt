@@ -50,7 +50,7 @@ returns c =
     let h : 128 ≤ length (a .state .now) = omega arith in
     let n = c .before .before .before .before .before .before .before .before .before .before .before .before .before .before .before .before .before .before .before .before .before .before .numbers-from .ensures in
     let e = rw (n) at (c .before .before .before .before .before .before .before .before .before .before .before .before .before .before .before .before .before .feed-on .ensures) in
-    let x : Called = fedOf 52 64 (a .setup) (stateFrom (a .state .now)) (a .bytes .now) (a .flash .now) (a .meta .now) (a .reply .now) in
+    let x : Called = fedOf 52 64 (a .setup) (stateFrom 52 64 (a .state .now)) (a .bytes .now) (a .flash .now) (a .meta .now) (a .reply .now) in
     let u = c .before .before .before .numbers-of .ensures in
     let v = c .before .before .lay-answer .ensures in
     fed-placed (a .answer .now) p (a .state .now) _ _ _ _ x ls (lay-numbers-requires (c .before .before .before .before .before .before .before .before) (c .before .before .before .before .before .before .before .lay-numbers .lifetimes)) (e ∙ sym (on-long _ _ _ _ _ _ _ _ _ _ _ h))

@@ -1,6 +1,8 @@
-use mathlib.Core.Path.{sym, _∙_}
+use mathlib.Core.Path.{ap, sym, _∙_}
 use Rattle.device.specs.Starts.{startedTo}
-use Rattle.tinyboot_c.proofs.Cases.{start-laid, start-kept}
+use Rattle.c_layout.specs.Layout.{stateBytes}
+use Rattle.tinyboot_c.specs.Calls.{asked}
+use Rattle.tinyboot_c.proofs.Cases.{start-laid, start-kept, new-started}
 use native.Mathlib.Omega.{arith}
 use borrow.Author.Needs.{needs}
 use Rattle.tinyboot_c.proofs.starting.started.Statement.{statement}
@@ -15,8 +17,8 @@ start-requires c κs = search needs
 is-none-requires : tie.Need-is-none-requires
 is-none-requires c κs = search needs
 
-lay-state-requires : tie.Need-lay-state-requires
-lay-state-requires c κs = search needs
+lay-new-requires : tie.Need-lay-new-requires
+lay-new-requires c κs = search needs
 
 lay-start-requires : tie.Need-lay-start-requires
 lay-start-requires c κs = search needs
@@ -35,7 +37,10 @@ returns c =
     let a = c .before .before .before .before .before .before .before .before .before .before .before .before .before .before .before .before .before .before .before .before .args in
     let e = c .before .before .lay-start .ensures in
     let x = startedTo (c .before .before .before .before .before .before .before .before .before .before .before .before .before .start .result) (c .before .before .before .before .before .before .before .before .before .before .before .before .before .start .last .1 .1 .1 .0) in
-    start-laid x _ (rw (c .before .before .before .before .before .before .before .before .before .before .before .before .before .before .before .mode-of .ensures) at (c .before .before .before .before .before .before .before .before .before .before .before .before .before .start .ensures)) (a .state .now) (a .answer .now) _ (e .0) _ (e .1) _ (c .before .before .before .before .before .before .lay-state .ensures) (sym (c .before .before .before .before .before .before .before .before .before .before .is-none .ensures) ∙ c .before .before .before .before .before .before .before .before .before .if1 .taken)
+    let k = rw (c .before .before .before .before .before .before .before .before .before .before .before .before .before .before .before .mode-of .ensures) at (c .before .before .before .before .before .before .before .before .before .before .before .before .before .start .ensures) in
+    start-laid x _ k (a .state .now) (a .answer .now) _ (e .0) _ (e .1) _
+    (c .before .before .before .before .before .before .lay-new .ensures ∙ ap stateBytes (new-started x 52 64 (a .setup) (asked (a .mode)) (a .flash .now) (a .meta .now) k))
+    (sym (c .before .before .before .before .before .before .before .before .before .before .is-none .ensures) ∙ c .before .before .before .before .before .before .before .before .before .if1 .taken)
 
 lay-start-requires-2 : tie.Need-lay-start-requires-2
 lay-start-requires-2 c κs = search needs
@@ -60,7 +65,7 @@ started-spec =
     mode-of-requires
     start-requires
     is-none-requires
-    lay-state-requires
+    lay-new-requires
     lay-start-requires
     same-length
     same-length-2
