@@ -68,7 +68,7 @@ returns-2 : tie.Need-returns-2
 returns-2 c =
     let a = c .before .before .before .before .before .before .before .before .before .before .before .before .before .before .before .before .before .before .before .before .before .before .before .before .before .before .before .before .before .args in
     let left : Setup → List ℕ → AfterFeed =
-            λ s v. feedCalled (fedOf 52 64 s (stateFrom 52 64 v) (a .bytes .now) (a .flash .now) (a .meta .now) (a .reply .now)) (a .answer .now) in
+    λ s v. feedCalled (fedOf 52 64 s (stateFrom 52 64 v) (a .bytes .now) (a .flash .now) (a .meta .now) (a .reply .now)) (a .answer .now) in
     let state : List ℕ = c .before .before .before .before .before .before .before .before .before .before .before .before .before .before .before .before .before .before .before .before .fed-byte .last .1 .0 in
     let e : state ≡ a .state .now = rw (c .before .before .before .before .before .before .before .before .before .before .before .before .before .before .before .before .before .if1 .left) at (c .before .before .before .before .before .before .before .before .before .before .before .before .before .before .before .before .before .before .before .before .fed-byte .ensures) in
     c .before .before .before .before .before .before .before .before .before .before .fed-piece .ensures ∙ ap (λ (s : Setup). left s state) (c .before .before .before .before .before .before .before .before .before .before .before .before .before .before .before .before .setup-from .ensures) ∙ ap (left (setupFrom (a .setup .now))) e
