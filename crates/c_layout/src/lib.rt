@@ -64,7 +64,6 @@ pub fn number_bytes(got: usize, fill: usize, next: u32, selected: bool, closed: 
     ]
 }
 
-// What a state has beside its arrays, laid where it stands.
 // The bytes of a new state: AA 55 in an empty frame, an empty page, and no write pending.
 pub fn new_bytes(closed: bool) -> [u8; 136]
     ensures { λ r. ⌜ r ≡ stateBytes (newState 52 64 closed) ⌝ }

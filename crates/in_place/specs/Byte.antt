@@ -1,4 +1,5 @@
--- A call on one byte that is only stored: no frame ends by it, and nothing of it is looked at.
+-- A call on one byte that is only stored: no frame ends by it, and nothing of it is looked at. No rule of 01, but a shorter way to what its rules give:
+-- where the byte is laid the call is the feed's (proofs/Quick.antt, `byte-fed`), and else nothing is done.
 use Prim.Native.Nat.{ℕ, _+_}
 use mathlib.Core.Bool.{Bool, true, false, _&&_, _||_}
 use mathlib.Core.List.{List}

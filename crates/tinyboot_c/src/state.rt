@@ -47,6 +47,7 @@ pub(crate) fn numbers_from(s: &[u8]) -> Numbers
     }
 }
 
+// What a state has beside its arrays, laid where it stands.
 pub(crate) fn lay_numbers(
     s: &mut [u8],
     got: usize,
