@@ -9,7 +9,7 @@ ghost use lib.Dec.{eqb};
 ghost use lib.ListN.{length};
 ghost use Rattle.tinyboot_protocol.specs.Names.{modeNumber};
 ghost use Rattle.device.specs.Refusals.{refusalNumber};
-ghost use Rattle.device.specs.Starts.{newState};
+ghost use Rattle.starts.specs.Starts.{newState};
 ghost use Rattle.dispatcher.specs.Answers.{mute, toldOf};
 ghost use Rattle.c_layout.specs.Layout.{setupSize, holdsState, flagByte, numberBytes, stateBytes, answerBytes, answered};
 ghost use Rattle.c_layout.specs.Inner.{toldBy};

@@ -1,4 +1,3 @@
-pub mod Erasing
 pub mod Verifying
 pub mod Resetting
 pub mod Rows

@@ -1,4 +1,4 @@
--- The bench sheet's rows 7, 8, 12 and 13, computed (01, Bench sheet), over a flash of 128 cells; with what each leaves.
+-- The bench sheet's rows 7, 8 and 13, computed (01, Bench sheet), over a flash of 128 cells; with what each leaves.
 use Prim.Native.Nat.{ℕ}
 use mathlib.Core.Path.{_≡_, refl}
 use mathlib.Core.List.{List, [], _∷_, _++_}
@@ -6,15 +6,11 @@ use lib.ListN.{replicate}
 use Rattle.laws.specs.Fold.{fold}
 use Rattle.tinyboot_protocol.specs.Crc.{entered, bits, bitsOf, crcFrom}
 use Rattle.platform.specs.State.{stateRead, appPresent}
-use Rattle.flash.specs.Flash.{erased}
-use Rattle.flash.specs.Flash as flash
-use Rattle.platform.specs.Record.{stepped, stepAnswer}
-use Rattle.commands.specs.Erase.{eraseFits, readied, stuck, erasedTo, eraseOf}
 use Rattle.commands.specs.Verify.{keyFits, verifiedTo, verifyOf}
 use Rattle.commands.specs.Reset.{resetRefused, resetsTo, resetOf}
 
 -- the low address byte, the flags, and the first data byte
-abbrev frame : ℕ → ℕ → ℕ → List ℕ
+abbrev pub frame : ℕ → ℕ → ℕ → List ℕ
 frame addr flags count = 0xAA ∷ 0x55 ∷ 1 ∷ 0 ∷ addr ∷ 0 ∷ 0 ∷ flags ∷ 2 ∷ 0 ∷ count ∷ replicate {A = ℕ} 53 0
 
 -- "123456789", whose CRC is 0x29B1; a key 0x04030201 at the start
@@ -24,14 +20,11 @@ app = 0x31 ∷ 0x32 ∷ 0x33 ∷ 0x34 ∷ 0x35 ∷ 0x36 ∷ 0x37 ∷ 0x38 ∷ 0x
 abbrev keyed : List ℕ
 keyed = 1 ∷ 2 ∷ 3 ∷ 4 ∷ replicate {A = ℕ} 124 0xFF
 
-abbrev zeros : List ℕ
-zeros = replicate {A = ℕ} 128 0
-
-abbrev bare : ℕ → List ℕ
+abbrev pub bare : ℕ → List ℕ
 bare state = state ∷ replicate {A = ℕ} 11 0xFF
 
 -- after a Verify of nine bytes
-abbrev waiting : List ℕ
+abbrev pub waiting : List ℕ
 waiting = 0x3F ∷ 0xFF ∷ 0xB1 ∷ 0x29 ∷ 9 ∷ 0 ∷ 0 ∷ 0 ∷ 0xFF ∷ 0xFF ∷ 0xFF ∷ 0xFF ∷ []
 
 -- sizes 0 and one past the capacity are refused; the capacity is taken, and so is less
@@ -50,16 +43,6 @@ pub row8 : (verifyOf 0x04030201 128 (frame 2 0 0) keyed (bare 0x7F) ≡ verified
     (verifyOf 0x04030202 128 (frame 6 0 0) keyed (bare 0x7F) ≡ verifiedTo 7 0 (bare 0x7F))
 unfolding verifyOf keyFits stateRead crcFrom bitsOf bits entered fold
 row8 = (refl, refl, refl, refl)
-
--- counts 0 and 96 are refused, the record untouched; 64 is taken, and Idle steps to Updating, Validating is rewritten
-pub row12 : (eraseOf 64 64 128 (frame 64 0 0) zeros (bare 0xFF) ≡ erasedTo 4 zeros (bare 0xFF)) ×
-    (eraseOf 64 64 128 (frame 0 0 96) zeros (bare 0xFF) ≡ erasedTo 4 zeros (bare 0xFF)) ×
-    (eraseOf 64 64 128 (frame 64 0 128) zeros (bare 0xFF) ≡ erasedTo 4 zeros (bare 0xFF)) ×
-    (eraseOf 64 64 128 (frame 64 0 64) zeros (bare 0xFF) ≡ erasedTo 1 (replicate {A = ℕ} 64 0 ++ replicate {A = ℕ} 64 0xFF) (bare 0x7F)) ×
-    (eraseOf 64 64 128 (frame 0 0 64) zeros waiting ≡ erasedTo 1 (replicate {A = ℕ} 64 0xFF ++ replicate {A = ℕ} 64 0) (bare 0x7F)) ×
-    (eraseOf 64 64 128 (frame 0 0 64) zeros (bare 0x1F) ≡ erasedTo 2 zeros (bare 0x1F))
-unfolding eraseOf eraseFits readied stuck stateRead stepped stepAnswer erased flash.eraseOf
-row12 = (refl, refl, refl, refl, refl, refl)
 
 -- a Reset to the app is refused while Updating; with an app it is taken otherwise, and one to Service always, with a baud or without
 pub row13 : (resetOf (frame 3 0 0) app (bare 0x7F) ≡ resetsTo 5 (bare 0x7F)) ×

@@ -1,4 +1,3 @@
 pub mod Fields
-pub mod Erase
 pub mod Verify
 pub mod Reset

@@ -6,7 +6,7 @@ use tinyboot_protocol::le;
 ghost use mathlib.Core.Path.{_≡_};
 ghost use Rattle.commands.specs.Fields.{addrOf, flagsOf, updating};
 
-pub(crate) fn addr(f: &[u8; 64]) -> u32
+pub fn addr(f: &[u8; 64]) -> u32
     ensures { λ r. ⌜ r ≡ addrOf (now (f .entry)) ⌝ }
 {
     le::read24(f[4], f[5], f[6])

@@ -12,14 +12,15 @@ use Rattle.tinyboot_protocol.specs.declared.RunMode.{RunMode}
 use Rattle.tinyboot_protocol.specs.declared.Status.{Status}
 use Rattle.tinyboot_protocol.specs.declared.CmdFound.{CmdFound}
 use Rattle.tinyboot_protocol.specs.declared.StatusFound.{StatusFound}
-use Rattle.tinyboot_protocol.specs.declared.BaudFound.{BaudFound}
-use Rattle.tinyboot_protocol.specs.declared.BaudRate.{BaudRate}
+use Rattle.baud.specs.declared.BaudFound.{BaudFound}
+use Rattle.baud.specs.declared.BaudRate.{BaudRate}
 use Rattle.frames.specs.declared.frame.Stop.{Stop}
 use Rattle.tinyboot_protocol.specs.Names.{statusNumber, modeNumber, cmdFoundOf, statusFoundOf}
-use Rattle.tinyboot_protocol.specs.Baud.{baudIndex, baudFoundOf}
+use Rattle.baud.specs.Baud.{baudIndex, baudFoundOf}
 use Rattle.frames.specs.Stored.{Said, saidOf, Read, seen}
 use Rattle.sending.specs.Sent.{Sent, sent}
-use Rattle.tinyboot_protocol.proofs.Apart.{cmd-found-apart, status-apart, status-found-apart, modeFrom, mode-back, mode-apart, rate-apart, rate-found-apart}
+use Rattle.tinyboot_protocol.proofs.Apart.{cmd-found-apart, status-apart, status-found-apart, modeFrom, mode-back, mode-apart}
+use Rattle.baud.proofs.Apart.{rate-apart, rate-found-apart}
 use Rattle.flash.specs.declared.storage.Stored.{Stored}
 use Rattle.platform.specs.declared.boot_meta_store.Step.{Step}
 use Rattle.platform.specs.declared.traits.BootState.{BootState}
@@ -29,21 +30,21 @@ use Rattle.flash.specs.Flash as flash
 use Rattle.platform.specs.Record.{Stepped, stepsTo}
 use Rattle.flash.proofs.Answers.{stored-injective}
 use Rattle.platform.proofs.Record.{step-injective}
-use Rattle.tinyboot_core.specs.declared.addressing.Selected.{Selected}
-use Rattle.tinyboot_core.specs.Select.{Choice, choiceOf}
+use Rattle.addressing.specs.declared.Selected.{Selected}
+use Rattle.addressing.specs.Select.{Choice, choiceOf}
 use Rattle.tinyboot_core.specs.Start.{Decision, decided}
-use Rattle.tinyboot_core.proofs.Selecting.{one-result}
+use Rattle.addressing.proofs.Selecting.{one-result}
 use Rattle.commands.specs.declared.verify.Verdict.{Verdict}
 use Rattle.writes.specs.declared.write.Ran.{Ran}
-use Rattle.commands.specs.Erase.{Erased, erasedTo}
+use Rattle.erases.specs.Erase.{Erased, erasedTo}
 use Rattle.commands.specs.Reset.{Resets, resetsTo}
 use Rattle.commands.specs.Verify.{Verified, verifiedTo}
 use Rattle.writes.specs.Write.{Wrote, wroteTo}
 use Rattle.device.specs.declared.refusal.Refusal.{Refusal}
-use Rattle.device.specs.declared.start.Started.{Started}
+use Rattle.starts.specs.declared.start.Started.{Started}
 use Rattle.device.specs.Refusals.{refusalNumber}
-use Rattle.device.specs.Starts.{startedTo}
-use Rattle.device.specs.Starts as start
+use Rattle.starts.specs.Starts.{startedTo}
+use Rattle.starts.specs.Starts as start
 use Rattle.handler.specs.declared.Handled.{Handled}
 use Rattle.handler.specs.Handling.{Obeyed, handledTo}
 use Rattle.dispatcher.specs.declared.Answer.{Answer}

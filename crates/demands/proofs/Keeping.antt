@@ -13,15 +13,15 @@ use Rattle.frames.specs.Reading.{lenOf, cmdOf}
 use Rattle.frames.specs.Stored.{ready}
 use Rattle.sending.specs.Sent.{wire, Sent, sendOf, sealed, sent}
 use Rattle.sending.proofs.Sealing.{sealed-length}
-use Rattle.tinyboot_core.specs.Select.{Choice, copied, selectOf}
-use Rattle.tinyboot_core.proofs.Selecting.{bytes-copied, select-length}
+use Rattle.addressing.specs.Select.{Choice, copied, selectOf}
+use Rattle.addressing.proofs.Selecting.{bytes-copied, select-length}
 use Rattle.commands.specs.Fields.{Unsupported}
-use Rattle.commands.specs.Erase.{eraseOf}
+use Rattle.erases.specs.Erase.{eraseOf}
 use Rattle.writes.specs.Write.{cmdWriteOf}
 use Rattle.commands.specs.Verify.{Verified, verifyOf}
 use Rattle.info.specs.Info.{infoOf, infoLaid}
 use Rattle.commands.specs.Reset.{resetOf}
-use Rattle.commands.proofs.Erasing.{erase-flash-length, erase-meta-length}
+use Rattle.erases.proofs.Erasing.{erase-flash-length, erase-meta-length}
 use Rattle.writes.proofs.Runs.{Pending, write-lengths, write-pending}
 use Rattle.commands.proofs.Verifying.{verify-length}
 use Rattle.info.proofs.Informing.{info-length, laid-length}

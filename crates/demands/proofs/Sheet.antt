@@ -4,7 +4,7 @@ use Rattle.tinyboot_core.specs.Start.{validOf, triedOf, clearedOf, startOf}
 use Rattle.flash.specs.Flash.{written, erased}
 use Rattle.flash.specs.Flash as flash
 use Rattle.platform.specs.Record.{stepped, stepAnswer}
-use Rattle.commands.specs.Erase.{eraseFits, readied, stuck, eraseOf}
+use Rattle.erases.specs.Erase.{eraseFits, readied, stuck, eraseOf}
 use Rattle.writes.specs.Write.{took, poured, flushed, writeFits, writtenOf, cmdWriteOf}
 use Rattle.commands.specs.Verify.{keyFits, verifyOf}
 use Rattle.feed.proofs.Rules.{frame-rules}

@@ -7,7 +7,7 @@ use mathlib.Core.List.{List, [], _∷_, _++_}
 use native.Mathlib.Omega.{arith}
 use lib.ListN.{length, replicate}
 use Rattle.device.specs.declared.Setup.{Setup}
-use Rattle.device.specs.Starts.{newState}
+use Rattle.starts.specs.Starts.{newState}
 use Rattle.feed.proofs.Rules.{call-rules}
 use Rattle.demands.specs.Stream.{Story, streamOf}
 use Rattle.demands.specs.Devices.{acknowledging, greedy}

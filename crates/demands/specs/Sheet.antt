@@ -8,7 +8,7 @@ use Rattle.laws.specs.Low.{lowBytes}
 use Rattle.sending.specs.Sent.{wire}
 use Rattle.tinyboot_core.specs.Start.{startOf}
 use Rattle.device.specs.declared.Setup.{Setup}
-use Rattle.device.specs.Starts.{newState}
+use Rattle.starts.specs.Starts.{newState}
 use Rattle.demands.specs.Stream.{Event, Story, storyOf}
 
 -- an answer: its number, and of its reply the status, the payload and the wait; silence has none of these

@@ -1,7 +1,6 @@
 // Translated from tinyboot, lib/core/src/protocol.rs (MIT OR Apache-2.0); changed: the dispatcher's fields are a state that goes by value, and what its types
 // fix at build time is a setup.
 pub mod refusal;
-pub mod start;
 
 use frames::frame::Frame;
 

@@ -8,7 +8,7 @@ use lib.Dec.{eqb}
 use Rattle.tinyboot_protocol.specs.Flags.{bitOf}
 use Rattle.frames.specs.Reading.{cmdOf}
 use Rattle.sending.specs.Sent.{Sent, sendOf}
-use Rattle.tinyboot_core.specs.Select.{selectOf}
+use Rattle.addressing.specs.Select.{selectOf}
 use Rattle.commands.specs.Fields.{flagsOf}
 use Rattle.device.specs.declared.Setup.{Setup}
 use Rattle.dispatcher.specs.Answers.{reply, restart}

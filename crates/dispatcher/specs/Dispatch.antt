@@ -9,7 +9,7 @@ use Rattle.laws.specs.Pick.{pick}
 use Rattle.tinyboot_protocol.specs.Flags.{bitOf}
 use Rattle.frames.specs.Reading.{cmdOf}
 use Rattle.sending.specs.Sent.{Sent, sendOf}
-use Rattle.tinyboot_core.specs.Select.{Choice, selectOf}
+use Rattle.addressing.specs.Select.{Choice, selectOf}
 use Rattle.commands.specs.Fields.{flagsOf, Ok}
 use Rattle.device.specs.declared.Setup.{Setup}
 use Rattle.dispatcher.specs.declared.Answer.{Answer}

@@ -2,11 +2,10 @@
 // answers.
 
 use crate::Answer;
+use addressing::MAX_UID_LEN;
+use addressing::Selected;
 use device::Setup;
 use handler::Handled;
-use tinyboot_core::addressing;
-use tinyboot_core::addressing::MAX_UID_LEN;
-use tinyboot_core::addressing::Selected;
 use tinyboot_protocol::ResetFlags;
 use tinyboot_protocol::Status;
 use tinyboot_protocol::le;
@@ -19,7 +18,7 @@ ghost use lib.ListN.{length, take};
 ghost use Rattle.laws.specs.Pick.{pick};
 ghost use Rattle.tinyboot_protocol.specs.Names.{statusNumber};
 ghost use Rattle.frames.specs.Reading.{cmdOf};
-ghost use Rattle.tinyboot_core.specs.Select.{selectOf};
+ghost use Rattle.addressing.specs.Select.{selectOf};
 ghost use Rattle.commands.specs.Fields.{flagsOf};
 ghost use Rattle.dispatcher.specs.Answers.{toldOf};
 ghost use Rattle.handler.specs.Handling.{held, handledTo};

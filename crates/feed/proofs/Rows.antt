@@ -8,7 +8,7 @@ use lib.ListN.{take, replicate}
 use Rattle.laws.specs.Low.{lowBytes}
 use Rattle.commands.specs.Reset.{resetRefused, resetOf}
 use Rattle.device.specs.declared.Setup.{Setup}
-use Rattle.device.specs.Starts.{newState}
+use Rattle.starts.specs.Starts.{newState}
 use Rattle.dispatcher.specs.Answers.{Told, mute, reply, restart}
 use Rattle.feed.specs.Feed.{Called, fedOf}
 use Rattle.feed.proofs.Rules.{call-rules}

@@ -4,7 +4,7 @@ use Rattle.tinyboot_protocol.specs.Crc.{entered, bits, bitsOf, crcFrom}
 use Rattle.frames.specs.Reading.{hunt, overhears, verdictOf, checked, started}
 use Rattle.frames.specs.Stored.{begun, store, wellOf}
 use Rattle.sending.specs.Sent.{sealed, sendOf}
-use Rattle.tinyboot_core.specs.Select.{agree, matches, slotOf, copied, selectOf}
+use Rattle.addressing.specs.Select.{agree, matches, slotOf, copied, selectOf}
 use Rattle.platform.specs.State.{stateRead, appPresent}
 use Rattle.info.specs.Info.{appVersion, infoOf}
 use Rattle.device.specs.Refusals.{eraseFits, capacityFits, setUp, runFits, wellFormed, lengthsOf, refusalOf}

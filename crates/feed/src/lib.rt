@@ -6,7 +6,6 @@ use device::refusal;
 use device::refusal::Refusal;
 use dispatcher::Answer;
 use dispatcher::dispatch;
-use frames::frame;
 use frames::frame::Stop;
 use tinyboot_protocol::Status;
 ghost use mathlib.Core.Path.{_≡_};
@@ -122,7 +121,7 @@ fn pass(
     ensures { λ r. ⌜ passedTo r (now (f .exit)) (now (page .exit)) (now (flash .exit)) (now (meta .exit)) (now (reply .exit)) ≡
         takenOf 52 64 setup (stateWith (now (f .entry)) got (now (page .entry)) fill next selected false) (now (bytes .entry)) (now (flash .entry)) (now (meta .entry)) (now (reply .entry)) ⌝ }
 {
-    let p = frame::read_in(f, got, true, bytes);
+    let p = reader::read_in(f, got, true, bytes);
     let stop = p.stop;
     if is_going(stop) {
         return after(p.got, fill, next, selected, false, p.taken, Answer::Quiet);

@@ -3,7 +3,6 @@ pub mod Reading
 pub mod Storing
 pub mod Steps
 pub mod Start
-pub mod Loop
 pub mod Anywhere
 pub mod Vectors
 pub mod Parts

@@ -15,7 +15,7 @@ use Rattle.frames.specs.declared.frame.End.the-variants.{Going, Over}
 use Rattle.laws.specs.Pick.{pick}
 use Rattle.laws.specs.Low.{lowFirst}
 use Rattle.tinyboot_protocol.specs.Crc.{crcOf}
-use Rattle.frames.specs.Reading.{cmdOf, statusOf, hunt, lenOf, overhears, verdictOf, checked, Begun, Ended, judged, started, readFrame}
+use Rattle.frames.specs.Reading.{cmdOf, statusOf, hunt, lenOf, overhears, headerOf, verdictOf, checked, Begun, Ended, judged, started, readFrame}
 use Rattle.frames.proofs.Cut.{size-append, verdict-append}
 
 module _ (cap : ℕ) (device : Bool) where
@@ -28,19 +28,21 @@ module _ (cap : ℕ) (device : Bool) where
       sym (rw (take-append-drop k f) at (verdict-append cap device (take k f) (drop k f) (simp length-take (omega arith))))
 
   -- steps 1 and 2, case by case
-  module _ (f : List ℕ) where
-    pub verdict-strange : ltb 5 (cmdOf f) || ltb 7 (statusOf f) ≡ true → verdictOf cap device f ≡ Over Kind.Unsupported
-    unfolding verdictOf
-    verdict-strange e = simp e
+  module _ (cmd status len : ℕ) where
+    pub header-strange : ltb 5 cmd || ltb 7 status ≡ true → headerOf cap device cmd status len ≡ Over Kind.Unsupported
+    header-strange e = simp e
 
-    pub verdict-going : ltb 5 (cmdOf f) || ltb 7 (statusOf f) ≡ false → lenOf f ≤ cap → verdictOf cap device f ≡ Going
-    unfolding verdictOf
-    verdict-going e h = simp (e, le-ltb cap (lenOf f) h)
+    pub header-going : ltb 5 cmd || ltb 7 status ≡ false → len ≤ cap → headerOf cap device cmd status len ≡ Going
+    header-going e h = simp (e, le-ltb cap len h)
 
-    pub verdict-long : ltb 5 (cmdOf f) || ltb 7 (statusOf f) ≡ false → cap < lenOf f → (t : Bool) → overhears device (statusOf f) ≡ t →
-        verdictOf cap device f ≡ Over (pick t Kind.Overheard Kind.PayloadOverflow)
-    unfolding verdictOf
-    verdict-long e h t o = simp (e, lt-ltb cap (lenOf f) h, o)
+    pub header-long : ltb 5 cmd || ltb 7 status ≡ false → cap < len → (t : Bool) → overhears device status ≡ t →
+        headerOf cap device cmd status len ≡ Over (pick t Kind.Overheard Kind.PayloadOverflow)
+    header-long e h t o = simp (e, lt-ltb cap len h, o)
+
+  -- a header by its fields
+  pub verdict-fields : (f : List ℕ) (n : ℕ) → n ≡ lenOf f → headerOf cap device (cmdOf f) (statusOf f) n ≡ verdictOf cap device f
+  unfolding verdictOf
+  verdict-fields f n e = rw e refl
 
   -- a header that passed has a length of at most the capacity
   pub going-size : (f : List ℕ) → verdictOf cap device f ≡ Going → lenOf f ≤ cap

@@ -38,12 +38,16 @@ hunt false (b ∷ l) = hunt (eqb b 0xAA) l
 unfoldable pub overhears : Bool → ℕ → Bool
 overhears device status = pick device (not (eqb status 0)) false
 
--- what a header says, of ten bytes or more (01, Frame bytes, steps 1 and 2)
-unfoldable pub verdictOf : ℕ → Bool → List ℕ → End
-verdictOf cap device f =
-    pick (ltb 5 (cmdOf f) || ltb 7 (statusOf f)) (Over Unsupported)
-    (pick (ltb cap (lenOf f)) (Over (pick (overhears device (statusOf f)) Overheard PayloadOverflow))
+-- what a header of this command, status and length says (01, Frame bytes, steps 1 and 2)
+abbrev pub headerOf : ℕ → Bool → ℕ → ℕ → ℕ → End
+headerOf cap device cmd status len =
+    pick (ltb 5 cmd || ltb 7 status) (Over Unsupported)
+    (pick (ltb cap len) (Over (pick (overhears device status) Overheard PayloadOverflow))
     Going)
+
+-- the same of a header's bytes, ten or more
+unfoldable pub verdictOf : ℕ → Bool → List ℕ → End
+verdictOf cap device f = headerOf cap device (cmdOf f) (statusOf f) (lenOf f)
 
 -- what a whole frame says; its CRC covers all that stands before it (01, Frame bytes, steps 3 and 4)
 unfoldable pub checked : Bool → List ℕ → Kind

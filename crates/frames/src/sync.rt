@@ -1,7 +1,6 @@
 // Translated from tinyboot, lib/protocol/src/sync.rs (MIT OR Apache-2.0); changed.
 
 ghost use mathlib.Core.Path.{_≡_};
-ghost use Prim.Native.Nat.{_<_};
 ghost use Rattle.frames.specs.Stored.{huntedOf};
 
 // The two bytes that a frame starts with.
@@ -12,8 +11,7 @@ impl Sync {
 }
 
 // Hunting: how many bytes of the sync word have come after one more, of which `got` had come before it.
-pub(crate) fn hunted(got: usize, b: u8) -> usize
-    requires { ⌜ got < 2 ⌝ }
+pub fn hunted(got: usize, b: u8) -> usize
     ensures { λ r. ⌜ r ≡ huntedOf got b ⌝ }
 {
     if got == 1 {

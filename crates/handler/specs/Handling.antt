@@ -9,7 +9,7 @@ use Rattle.frames.specs.Reading.{cmdOf}
 use Rattle.tinyboot_protocol.specs.Names.{statusNumber}
 use Rattle.tinyboot_protocol.specs.declared.Status.{Status}
 use Rattle.commands.specs.Fields.{Ok, Unsupported}
-use Rattle.commands.specs.Erase.{Erased, eraseOf}
+use Rattle.erases.specs.Erase.{Erased, eraseOf}
 use Rattle.writes.specs.Write.{Wrote, cmdWriteOf}
 use Rattle.commands.specs.Verify.{Verified, verifyOf}
 use Rattle.info.specs.Info.{infoOf, infoLaid}

@@ -1,10 +1,10 @@
 // Translated from tinyboot, lib/core/src/protocol.rs (MIT OR Apache-2.0); changed: a command answers its reply's status and length, and who calls it lays them
 // in the header.
 
-use commands::erase;
 use commands::reset;
 use commands::verify;
 use device::Setup;
+use erases::erase;
 use frames::frame::InfoData;
 use tinyboot_protocol::Cmd;
 use tinyboot_protocol::CmdFound;

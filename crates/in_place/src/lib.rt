@@ -111,7 +111,7 @@ fn read(s: &mut [u8], got: usize, bytes: &[u8]) -> frame::Passed
     ensures { λ r. ⌜ (seen (take 64 (now (s .exit))) (r .got) (r .taken) (r .stop) ≡ readOf 52 true (take 64 (now (s .entry))) got (now (bytes .entry))) ×
         (drop 64 (now (s .exit)) ≡ drop 64 (now (s .entry))) ⌝ }
 {
-    frame::read_part(&mut s[..64], got, true, bytes)
+    reader::read_part(&mut s[..64], got, true, bytes)
 }
 
 // A call that is not refused.

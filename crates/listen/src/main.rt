@@ -2,11 +2,11 @@
 // the end, how many bytes of a frame have begun. A restart ends it.
 use device::Setup;
 use device::State;
-use device::start;
 use dispatcher::Answer;
 use feed::feed;
 use libc::STDIN_FILENO;
 use libc::STDOUT_FILENO;
+use starts::start;
 use tinyboot_protocol::COMPAT_UNSET;
 
 // How far the stream has been heard: the device, the bytes in all, how many of them the last call took, and whether the device listens on.

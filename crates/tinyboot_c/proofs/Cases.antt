@@ -12,7 +12,7 @@ use Rattle.frames.specs.Stored.{wellOf}
 use Rattle.device.specs.declared.Setup.{Setup}
 use Rattle.device.specs.Refusals.{setUp, runFits, wellFormed, lengthsOf, refusalOf}
 use Rattle.tinyboot_core.specs.Start.{Decision, startOf}
-use Rattle.device.specs.Starts.{Left, left, decidedTo, newState, startRefusal, startedOf}
+use Rattle.starts.specs.Starts.{Left, left, decidedTo, newState, startRefusal, startedOf}
 use Rattle.dispatcher.specs.Answers.{Told, mute, toldOf}
 use Rattle.feed.specs.Feed.{fedOf}
 use Rattle.c_layout.specs.Layout.{setupFrom, holdsState, stateFrom, numberBytes, partBytes, stateBytes, answerBytes}

@@ -10,7 +10,7 @@ use Rattle.laws.specs.Over.{over}
 use Rattle.device.specs.declared.Setup.{Setup}
 use Rattle.device.specs.declared.State.{State}
 use Rattle.device.specs.Refusals.{refusalOf}
-use Rattle.device.specs.Starts.{Left, newState, startRefusal, startedOf}
+use Rattle.starts.specs.Starts.{Left, newState, startRefusal, startedOf}
 use Rattle.dispatcher.specs.Answers.{Told, mute}
 use Rattle.feed.specs.Feed.{Called, fedOf}
 use Rattle.c_layout.specs.Layout.{setupSize, stateSize, answerSize, setupFrom, holdsState, stateFrom, stateBytes, answerBytes, answered}

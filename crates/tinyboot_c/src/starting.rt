@@ -7,7 +7,7 @@ use c_layout::refusal_number;
 use device::Setup;
 use device::refusal::Refusal;
 use device::refusal::refuses;
-use device::start::start;
+use starts::start::start;
 use tinyboot_protocol::RunMode;
 ghost use mathlib.Core.Path.{_≡_};
 ghost use Prim.Native.Nat.{_≤_};
@@ -16,7 +16,7 @@ ghost use Rattle.tinyboot_protocol.specs.Names.{modeNumber};
 ghost use Rattle.laws.specs.Over.{over};
 ghost use Rattle.device.specs.Refusals.{refusalNumber};
 ghost use Rattle.c_layout.specs.Layout.{answerBytes};
-ghost use Rattle.device.specs.Starts.{startRefusal, startedOf};
+ghost use Rattle.starts.specs.Starts.{startRefusal, startedOf};
 ghost use Rattle.tinyboot_c.specs.Calls.{asked, startTold, orNoRoom, afterStart, startCalled};
 
 fn mode_of(mode: u8) -> RunMode

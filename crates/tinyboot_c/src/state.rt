@@ -9,7 +9,7 @@ ghost use Prim.Native.Nat.{_≤_, _+_};
 ghost use lib.ListN.{length};
 ghost use lib.Seq.{paste};
 ghost use Rattle.c_layout.specs.Layout.{part, numberBytes, stateBytes};
-ghost use Rattle.device.specs.Starts.{newState};
+ghost use Rattle.starts.specs.Starts.{newState};
 ghost use Rattle.tinyboot_c.specs.Inner.{numbersFrom};
 
 // What a state has beside its arrays.

@@ -1,6 +1,2 @@
-pub mod PrefixBits
-pub mod PrefixBytes
-pub mod Selecting
-pub mod SelectVectors
 pub mod Starting
 pub mod StartVectors

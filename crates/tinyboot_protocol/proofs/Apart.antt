@@ -6,8 +6,6 @@ use lib.ListN.{getD}
 use Rattle.laws.specs.Lookup.{Lookup, none, some}
 use Rattle.laws.proofs.Inverse.{apart}
 use Rattle.tinyboot_protocol.specs.Names.{cmdNumber, cmdFoundOf, statusNumber, statusFoundOf, modeNumber}
-use Rattle.tinyboot_protocol.specs.Baud.{baudIndex, baudFoundOf}
-use Rattle.tinyboot_protocol.proofs.Rates.{entry}
 use Rattle.tinyboot_protocol.specs.declared.Cmd.{Cmd}
 use Rattle.tinyboot_protocol.specs.declared.Cmd.the-variants.{Info, Erase, Write, Verify, Reset, Select}
 use Rattle.tinyboot_protocol.specs.declared.CmdFound.{CmdFound}
@@ -27,25 +25,6 @@ use Rattle.tinyboot_protocol.specs.declared.StatusFound.{StatusFound}
 use Rattle.tinyboot_protocol.specs.declared.StatusFound.the-variants.{Known as KnownStatus, Unknown as UnknownStatus}
 use Rattle.tinyboot_protocol.specs.declared.RunMode.{RunMode}
 use Rattle.tinyboot_protocol.specs.declared.RunMode.the-variants.{HandOff, Service}
-use Rattle.tinyboot_protocol.specs.declared.BaudRate.{BaudRate}
-use Rattle.tinyboot_protocol.specs.declared.BaudRate.the-variants.{
-  B9600,
-  B19200,
-  B38400,
-  B57600,
-  B115200,
-  B230400,
-  B460800,
-  B500000,
-  B921600,
-  B1000000,
-  B1500000,
-  B2000000,
-  B2500000,
-  B3000000,
-}
-use Rattle.tinyboot_protocol.specs.declared.BaudFound.{BaudFound}
-use Rattle.tinyboot_protocol.specs.declared.BaudFound.the-variants.{Rate, NoRate}
 
 abbrev cmdFrom : ℕ → Cmd
 cmdFrom n = getD (Info ∷ Erase ∷ Write ∷ Verify ∷ Reset ∷ Select ∷ []) n Info
@@ -120,33 +99,3 @@ mode-back Service = refl
 
 pub mode-apart : (a b : RunMode) → modeNumber a ≡ modeNumber b → a ≡ b
 mode-apart = apart modeNumber modeFrom mode-back
-
-rate-back : (r : BaudRate) → entry (baudIndex r) ≡ r
-rate-back B9600 = refl
-rate-back B19200 = refl
-rate-back B38400 = refl
-rate-back B57600 = refl
-rate-back B115200 = refl
-rate-back B230400 = refl
-rate-back B460800 = refl
-rate-back B500000 = refl
-rate-back B921600 = refl
-rate-back B1000000 = refl
-rate-back B1500000 = refl
-rate-back B2000000 = refl
-rate-back B2500000 = refl
-rate-back B3000000 = refl
-
-pub rate-apart : (a b : BaudRate) → baudIndex a ≡ baudIndex b → a ≡ b
-rate-apart = apart baudIndex entry rate-back
-
-abbrev rateFound : Lookup → BaudFound
-rateFound (some n) = Rate (entry n)
-rateFound none = NoRate
-
-rate-found-back : (f : BaudFound) → rateFound (baudFoundOf f) ≡ f
-rate-found-back (Rate r) = ap Rate (rate-back r)
-rate-found-back NoRate = refl
-
-pub rate-found-apart : (a b : BaudFound) → baudFoundOf a ≡ baudFoundOf b → a ≡ b
-rate-found-apart = apart baudFoundOf rateFound rate-found-back

@@ -2,5 +2,4 @@ pub mod Serial
 pub mod Bytes
 pub mod Apart
 pub mod Keys
-pub mod Rates
 pub mod Versions

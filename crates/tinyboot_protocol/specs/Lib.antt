@@ -3,5 +3,4 @@ pub mod CrcSteps
 pub mod Names
 pub mod Flags
 pub mod Key
-pub mod Baud
 pub mod Version

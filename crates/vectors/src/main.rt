@@ -1,7 +1,7 @@
 // Runs published vectors over the protocol crate and says which differ.
+use baud::BaudFound;
+use baud::BaudRate;
 use libc::STDOUT_FILENO;
-use tinyboot_protocol::BaudFound;
-use tinyboot_protocol::BaudRate;
 use tinyboot_protocol::compat_key;
 use tinyboot_protocol::crc::crc16;
 use tinyboot_protocol::pack_version;

@@ -1,5 +1,5 @@
 use mathlib.Core.Path.{ap, sym, _∙_}
-use Rattle.device.specs.Starts.{startedTo}
+use Rattle.starts.specs.Starts.{startedTo}
 use Rattle.c_layout.specs.Layout.{stateBytes}
 use Rattle.tinyboot_c.specs.Calls.{asked}
 use Rattle.tinyboot_c.proofs.Cases.{start-laid, start-kept, new-started}

@@ -1,0 +1,4 @@
+pub mod PrefixBits
+pub mod PrefixBytes
+pub mod Selecting
+pub mod SelectVectors

@@ -1,0 +1,77 @@
+use mathlib.Core.Path.{_≡_, sym, _∙_}
+use Rattle.frames.proofs.Steps.{wanted-none, wanted-fits, wanted-turn, byte-turn}
+use native.Mathlib.Omega.{arith}
+use borrow.Author.Needs.{needs}
+use Rattle.reader.proofs.take_turn.Statement.{statement}
+use Rattle.reader.proofs.take_turn.Tie as tie
+
+wanted-requires : tie.Need-wanted-requires
+wanted-requires c κs = search needs
+
+shared-slice-read-push : tie.Need-shared-slice-read-push
+shared-slice-read-push c = search needs
+
+push-requires : tie.Need-push-requires
+push-requires c κs =
+    let a = c .before .before .before .before .before .before .before .args in
+    let p = c .before .before .before .before .before .before .before .pre in
+    (wanted-none 52 (a .device) (a .f .now) (a .got) (p .1) (sym (c .before .before .before .wanted .ensures) ∙ c .before .before .if1 .taken), p .1)
+
+same-length : tie.Need-same-length
+same-length c = search needs
+
+returns : tie.Need-returns
+returns c =
+    let a = c .before .before .before .before .before .before .before .before .before .before .args in
+    let p = c .before .before .before .before .before .before .before .before .before .before .pre in
+    let u = c .before .before .push in
+    byte-turn 52 (a .device) (a .f .now) (a .got) (p .1) (a .bytes .now) (a .at) (p .0) (u .last .0) (u .result .got) (u .result .end) (u .ensures)
+
+sub-least : tie.Need-sub-least
+sub-least c = search needs
+
+least-requires : tie.Need-least-requires
+least-requires c κs = search needs
+
+fill-requires : tie.Need-fill-requires
+fill-requires c κs =
+    let a = c .before .before .before .before .before .before .before .args in
+    let p = c .before .before .before .before .before .before .before .pre in
+    let e = c .before .before .before .wanted .ensures in
+    wanted-fits 52 (a .device) (a .f .now) (a .got) (p .1) (a .bytes .now) (a .at) (c .before .least .result) (p .0) (λ z. c .before .before .if1 .left (e ∙ z)) (rw e at (c .before .least .ensures))
+
+add-t17 : tie.Need-add-t17
+add-t17 c =
+    let a = c .before .before .before .before .before .before .before .before .before .before .args in
+    let p = c .before .before .before .before .before .before .before .before .before .before .pre in
+    let e = c .before .before .before .before .before .before .wanted .ensures in
+    let m = c .before .before .before .before .least in
+    omega (arith, wanted-fits 52 (a .device) (a .f .now) (a .got) (p .1) (a .bytes .now) (a .at) (m .result) (p .0) (λ z. c .before .before .before .before .before .if1 .left (e ∙ z)) (rw e at (m .ensures)))
+
+same-length-2 : tie.Need-same-length-2
+same-length-2 c = search needs
+
+returns-2 : tie.Need-returns-2
+returns-2 c =
+    let a = c .before .before .before .before .before .before .before .before .before .before .args in
+    let p = c .before .before .before .before .before .before .before .before .before .before .pre in
+    let e = c .before .before .before .before .before .before .wanted .ensures in
+    let m = c .before .before .before .before .least in
+    rw (c .before .before .fill .ensures)
+    (wanted-turn 52 (a .device) (a .f .now) (a .got) (p .1) (a .bytes .now) (a .at) (m .result) (p .0) (λ z. c .before .before .before .before .before .if1 .left (e ∙ z)) (rw e at (m .ensures)))
+
+pub take-turn-spec : {M : Type 1} → statement M
+take-turn-spec =
+    tie.close
+    (tie.spec
+    wanted-requires
+    shared-slice-read-push
+    push-requires
+    same-length
+    returns
+    sub-least
+    least-requires
+    fill-requires
+    add-t17
+    same-length-2
+    returns-2)
