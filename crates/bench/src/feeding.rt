@@ -3,14 +3,14 @@ use crate::module;
 use crate::module::Bench;
 use crate::show;
 use crate::starting;
-use dispatcher::Answer;
 use feed::Passed;
 use feed::feed_in;
 use flash::cells::first;
+use replies::Answer;
 use tinyboot_protocol::RunMode;
 ghost use mathlib.Core.Path.{_≡_};
 ghost use Rattle.tinyboot_protocol.specs.Names.{modeNumber};
-ghost use Rattle.dispatcher.specs.Answers.{toldOf};
+ghost use Rattle.replies.specs.Answers.{toldOf};
 
 // What a call says, in numbers.
 struct Said {

@@ -10,8 +10,8 @@ use Rattle.laws.specs.Low.{lowFirst, lowBytes}
 use Rattle.laws.specs.Over.{over}
 use Rattle.device.specs.declared.Setup.{Setup}
 use Rattle.device.specs.declared.State.{State}
-use Rattle.dispatcher.specs.Answers.{Told}
-use Rattle.feed.specs.Feed.{stateWith}
+use Rattle.replies.specs.Answers.{Told}
+use Rattle.device.specs.State.{stateWith}
 
 -- so many bytes from a place on
 abbrev pub part : ℕ → ℕ → List ℕ → List ℕ

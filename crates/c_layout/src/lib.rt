@@ -2,7 +2,7 @@
 // interface.
 
 use device::refusal::Refusal;
-use dispatcher::Answer;
+use replies::Answer;
 use tinyboot_protocol::RunMode;
 ghost use mathlib.Core.Path.{_≡_};
 ghost use lib.Dec.{eqb};
@@ -10,7 +10,7 @@ ghost use lib.ListN.{length};
 ghost use Rattle.tinyboot_protocol.specs.Names.{modeNumber};
 ghost use Rattle.device.specs.Refusals.{refusalNumber};
 ghost use Rattle.starts.specs.Starts.{newState};
-ghost use Rattle.dispatcher.specs.Answers.{mute, toldOf};
+ghost use Rattle.replies.specs.Answers.{mute, toldOf};
 ghost use Rattle.c_layout.specs.Layout.{setupSize, holdsState, flagByte, numberBytes, stateBytes, answerBytes, answered};
 ghost use Rattle.c_layout.specs.Inner.{toldBy};
 

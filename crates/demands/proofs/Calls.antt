@@ -23,9 +23,10 @@ use Rattle.device.specs.declared.Setup.{Setup}
 use Rattle.device.specs.declared.State.{State}
 use Rattle.device.specs.Refusals.{eraseFits, capacityFits, setUp, runFits, wellFormed, lengthsOf, refusalOf}
 use Rattle.handler.specs.Handling.{Held, held}
-use Rattle.dispatcher.specs.Answers.{mute}
+use Rattle.replies.specs.Answers.{mute}
 use Rattle.dispatcher.specs.Dispatch.{Ending, dispatchOf}
-use Rattle.feed.specs.Feed.{Called, stateWith, quietBy, endedBy, afterRead, takenOf, refusalFor, refusedBy, fedOf}
+use Rattle.device.specs.State.{stateWith}
+use Rattle.feed.specs.Feed.{Called, quietBy, endedBy, afterRead, takenOf, refusalFor, refusedBy, fedOf}
 use Rattle.demands.specs.Stream.{Story, ends, eventOf, holding, goesOn, acted, streamOf}
 use Rattle.demands.specs.Demand.{World, Good, after}
 use Rattle.demands.proofs.Keeping.{Fit, dispatch-fit}

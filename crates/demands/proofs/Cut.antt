@@ -18,7 +18,8 @@ use Rattle.device.specs.declared.Setup.{Setup}
 use Rattle.device.specs.declared.State.{State}
 use Rattle.handler.specs.Handling.{Held, held}
 use Rattle.dispatcher.specs.Dispatch.{Ending}
-use Rattle.feed.specs.Feed.{Called, stateWith, endedBy, refusedBy, fedOf}
+use Rattle.device.specs.State.{stateWith}
+use Rattle.feed.specs.Feed.{Called, endedBy, refusedBy, fedOf}
 use Rattle.demands.specs.Stream.{Event, Story, ends, first, eventOf, goesOn, acted, streamOf, whole, storyOf}
 use Rattle.demands.specs.Demand.{ours, World, Good, call, after, noted, stopped, Runs, next, stop, Demand3}
 use Rattle.demands.proofs.Keeping.{Fit}

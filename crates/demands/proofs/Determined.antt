@@ -47,9 +47,9 @@ use Rattle.starts.specs.Starts.{startedTo}
 use Rattle.starts.specs.Starts as start
 use Rattle.handler.specs.declared.Handled.{Handled}
 use Rattle.handler.specs.Handling.{Obeyed, handledTo}
-use Rattle.dispatcher.specs.declared.Answer.{Answer}
+use Rattle.replies.specs.declared.Answer.{Answer}
 use Rattle.dispatcher.specs.declared.dispatch.Dispatched.{Dispatched}
-use Rattle.dispatcher.specs.Answers.{Told, toldOf}
+use Rattle.replies.specs.Answers.{Told, toldOf}
 use Rattle.dispatcher.specs.Dispatch.{Ending, endedTo}
 use Rattle.feed.specs.declared.Fed.{Fed}
 use Rattle.feed.specs.declared.Passed.{Passed}

@@ -28,7 +28,8 @@ use Rattle.info.proofs.Informing.{info-length, laid-length}
 use Rattle.commands.proofs.Resetting.{reset-length}
 use Rattle.device.specs.declared.Setup.{Setup}
 use Rattle.handler.specs.Handling.{Held, held, Obeyed, bare, loaded, informed, erased, wrote, crcLaid, verified, resets, handledOf}
-use Rattle.dispatcher.specs.Dispatch.{headed, replyOf, Ending, silent, spokenTo, answeredOf, obeyedOf, unaddressedOf, laid, chosen, addressedOf, dispatchOf}
+use Rattle.replies.specs.Reply.{headed, replyOf}
+use Rattle.dispatcher.specs.Dispatch.{Ending, silent, spokenTo, answeredOf, obeyedOf, unaddressedOf, laid, chosen, addressedOf, dispatchOf}
 
 -- a frame whose AA 55 is laid
 abbrev pub Synced : List ℕ → Type 0

@@ -17,8 +17,9 @@ use Rattle.tinyboot_protocol.specs.Flags.{bitOf}
 use Rattle.commands.specs.Fields.{flagsOf}
 use Rattle.device.specs.declared.Setup.{Setup}
 use Rattle.handler.specs.Handling.{Held, held, Obeyed}
-use Rattle.dispatcher.specs.Answers.{Told, reply, restart}
-use Rattle.dispatcher.specs.Dispatch.{headed, saidBy, spokenBy, Ending, replyOf, silent, spokenTo, answeredOf, dispatchOf}
+use Rattle.replies.specs.Answers.{Told, reply, restart}
+use Rattle.replies.specs.Reply.{headed, saidBy, spokenBy, replyOf}
+use Rattle.dispatcher.specs.Dispatch.{Ending, silent, spokenTo, answeredOf, dispatchOf}
 use Rattle.demands.specs.Stream.{Event, eventOf}
 use Rattle.demands.proofs.Keeping.{Fit, headed-length, dispatch-all}
 

@@ -6,7 +6,7 @@ use lib.Dec.{eqb}
 use Rattle.laws.specs.Pick.{pick}
 use Rattle.device.specs.declared.Setup.{Setup}
 use Rattle.device.specs.declared.State.{State}
-use Rattle.dispatcher.specs.Answers.{reply}
+use Rattle.replies.specs.Answers.{reply}
 use Rattle.feed.specs.Feed.{Called}
 
 -- what a call leaves, of setup, state, piece, flash, record and reply room

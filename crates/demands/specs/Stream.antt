@@ -8,10 +8,10 @@ use Rattle.frames.specs.Reading.{kindStatus, Outcome, Begun, Ended, readFrame}
 use Rattle.frames.specs.Stored.{begun, store, ready}
 use Rattle.device.specs.declared.Setup.{Setup}
 use Rattle.device.specs.declared.State.{State}
-use Rattle.dispatcher.specs.Answers.{Told}
+use Rattle.replies.specs.Answers.{Told}
 use Rattle.handler.specs.Handling.{Held, held}
 use Rattle.dispatcher.specs.Dispatch.{Ending, dispatchOf}
-use Rattle.feed.specs.Feed.{stateWith}
+use Rattle.device.specs.State.{stateWith}
 
 -- a frame that has ended: what is said of it, and its reply
 pub record Event : Type 0 where

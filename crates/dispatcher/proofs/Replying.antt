@@ -1,28 +1,16 @@
--- A reply built in the frame and sent, and what the end of a frame leaves.
+-- What the end of a frame leaves.
 use Prim.Native.Nat.{ℕ}
 use mathlib.Core.Path.{_≡_, refl}
 use mathlib.Core.Bool.{Bool, true, false}
 use mathlib.Core.List.{List}
 use lib.ListN.{length, take}
 use lib.Dec.{eqb}
-use Rattle.tinyboot_protocol.specs.Flags.{bitOf}
 use Rattle.frames.specs.Reading.{cmdOf}
-use Rattle.sending.specs.Sent.{Sent, sendOf}
 use Rattle.addressing.specs.Select.{selectOf}
-use Rattle.commands.specs.Fields.{flagsOf}
 use Rattle.device.specs.declared.Setup.{Setup}
-use Rattle.dispatcher.specs.Answers.{reply, restart}
+use Rattle.replies.specs.Reply.{Spoken, replyOf}
 use Rattle.handler.specs.Handling.{Held, Obeyed}
-use Rattle.dispatcher.specs.Dispatch.{headed, Spoken, spoken, replyOf, silent, spokenTo, answeredOf, obeyedOf, unaddressedOf, chosen, addressedOf, dispatchOf}
-
-module _ (cap status len wait : ℕ) (f room : List ℕ) (due : Bool) (s : Sent) (k : s ≡ sendOf cap (headed status len f) room) where
-  pub reply-restart : due ≡ true → (m : ℕ) → m ≡ bitOf 0 (flagsOf f) → spoken (restart (s .count) m) (s .bytes) (s .room) ≡ replyOf cap status len due wait f room
-  unfolding replyOf
-  reply-restart w m e = rw (w, e, k) refl
-
-  pub reply-only : due ≡ false → spoken (reply (s .count) wait) (s .bytes) (s .room) ≡ replyOf cap status len due wait f room
-  unfolding replyOf
-  reply-only w = rw (w, k) refl
+use Rattle.dispatcher.specs.Dispatch.{silent, spokenTo, answeredOf, obeyedOf, unaddressedOf, chosen, addressedOf, dispatchOf}
 
 -- the reply to what was done, x being what the code holds of it
 pub answered : (cap wait : ℕ) (x y : Obeyed) (k : x ≡ y) (selected after : Bool) (w : selected ≡ after) (room : List ℕ) (s : Spoken) →

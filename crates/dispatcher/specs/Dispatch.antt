@@ -1,46 +1,21 @@
 -- What becomes of a frame that has ended (01, Frame bytes, replies; Commands, Select). `status` is what the reader says of it: 0 overheard, 1 a good
 -- request, else the error.
-use Prim.Native.Nat.{ℕ, _/_, _%_}
+use Prim.Native.Nat.{ℕ}
 use mathlib.Core.Bool.{Bool, true, false}
 use mathlib.Core.List.{List}
-use lib.ListN.{length, take, set}
+use lib.ListN.{length, take}
 use lib.Dec.{eqb}
 use Rattle.laws.specs.Pick.{pick}
-use Rattle.tinyboot_protocol.specs.Flags.{bitOf}
 use Rattle.frames.specs.Reading.{cmdOf}
-use Rattle.sending.specs.Sent.{Sent, sendOf}
 use Rattle.addressing.specs.Select.{Choice, selectOf}
-use Rattle.commands.specs.Fields.{flagsOf, Ok}
+use Rattle.commands.specs.Fields.{Ok}
 use Rattle.device.specs.declared.Setup.{Setup}
-use Rattle.dispatcher.specs.declared.Answer.{Answer}
+use Rattle.replies.specs.declared.Answer.{Answer}
 use Rattle.dispatcher.specs.declared.dispatch.Dispatched.{Dispatched}
 use Rattle.dispatcher.specs.declared.dispatch.Turn.{Turn}
-use Rattle.dispatcher.specs.Answers.{Told, mute, reply, restart, toldOf}
+use Rattle.replies.specs.Answers.{Told, mute, toldOf}
+use Rattle.replies.specs.Reply.{Spoken, replyOf}
 use Rattle.handler.specs.Handling.{Held, held, Obeyed, bare, loaded, handledOf}
-
--- the reply's header: command, address and flags are kept (01, Frame bytes, a reply)
-abbrev pub headed : ℕ → ℕ → List ℕ → List ℕ
-headed status len f = set (set (set f 3 status) 8 (len % 256)) 9 (len / 256 % 256)
-
--- a reply sent: what the call says, the frame's bytes and the room
-pub record Spoken : Type 0 where
-  pub told : Told
-  pub bytes : List ℕ
-  pub room : List ℕ
-
-abbrev pub spoken : Told → List ℕ → List ℕ → Spoken
-spoken t f room = record { told = t; bytes = f; room = room }
-
--- after an accepted Reset a restart is due, in the mode that flags bit 0 asks for (01, Commands, Reset)
-abbrev pub saidBy : Bool → ℕ → ℕ → ℕ → Told
-saidBy true wait flags len = restart len (bitOf 0 flags)
-saidBy false wait flags len = reply len wait
-
-abbrev pub spokenBy : Bool → ℕ → ℕ → Sent → Spoken
-spokenBy due wait flags s = spoken (saidBy due wait flags (s .count)) (s .bytes) (s .room)
-
-unfoldable pub replyOf : ℕ → ℕ → ℕ → Bool → ℕ → List ℕ → List ℕ → Spoken
-replyOf cap status len due wait f room = spokenBy due wait (flagsOf f) (sendOf cap (headed status len f) room)
 
 -- all that a frame's end leaves
 pub record Ending : Type 0 where

@@ -1,14 +1,12 @@
 // Translated from tinyboot, lib/core/src/protocol.rs (MIT OR Apache-2.0); changed: the reply is written into a lent room, the wait and the restart are
 // answers.
 
-use crate::Answer;
 use addressing::MAX_UID_LEN;
 use addressing::Selected;
 use device::Setup;
 use handler::Handled;
-use tinyboot_protocol::ResetFlags;
+use replies::Answer;
 use tinyboot_protocol::Status;
-use tinyboot_protocol::le;
 ghost use mathlib.Core.Path.{_≡_};
 ghost use mathlib.Core.Bool.{Bool, true};
 ghost use mathlib.Core.List.{List};
@@ -19,10 +17,8 @@ ghost use Rattle.laws.specs.Pick.{pick};
 ghost use Rattle.tinyboot_protocol.specs.Names.{statusNumber};
 ghost use Rattle.frames.specs.Reading.{cmdOf};
 ghost use Rattle.addressing.specs.Select.{selectOf};
-ghost use Rattle.commands.specs.Fields.{flagsOf};
-ghost use Rattle.dispatcher.specs.Answers.{toldOf};
 ghost use Rattle.handler.specs.Handling.{held, handledTo};
-ghost use Rattle.dispatcher.specs.Dispatch.{headed, spoken, replyOf, endedTo, mutedTo, chosen, dispatchOf, turned, doneOf};
+ghost use Rattle.dispatcher.specs.Dispatch.{endedTo, mutedTo, chosen, dispatchOf, turned, doneOf};
 
 // What the end of a frame leaves beside what it is lent.
 pub struct Dispatched {
@@ -38,42 +34,6 @@ fn is_request(status: Status) -> bool
     ensures { λ r. ⌜ r ≡ eqb (statusNumber status) 0 ⌝ }
 {
     status.to_u8() == 0
-}
-
-// The reply's status and length.
-fn head(f: &mut [u8; 64], status: Status, len: u16)
-    ensures { λ r. ⌜ now (f .exit) ≡ headed (statusNumber status) len (now (f .entry)) ⌝ }
-{
-    let n = le::bytes16(len);
-    f[3] = status.to_u8();
-    f[8] = n[0];
-    f[9] = n[1];
-}
-
-fn flags(f: &[u8; 64]) -> ResetFlags
-    ensures { λ r. ⌜ r .bits ≡ flagsOf (now (f .entry)) ⌝ }
-{
-    ResetFlags { bits: f[7] }
-}
-
-// The reply is built in the frame and sent into the room.
-fn reply(h: Handled, wait: u8, f: &mut [u8; 64], room: &mut [u8]) -> Answer
-    ensures { λ r. ⌜ spoken (toldOf r) (now (f .exit)) (now (room .exit)) ≡ replyOf 52 (statusNumber (h .status)) (h .len) (h .restart) wait (now (f .entry)) (now (room .entry)) ⌝ }
-{
-    let asked = flags(f);
-    let status = h.status;
-    head(f, status, h.len);
-    let len = sending::send(f, room);
-    if h.restart {
-        return Answer::Restart {
-            len: len,
-            mode: asked.run_mode(),
-        };
-    }
-    Answer::Reply {
-        len: len,
-        wait: wait,
-    }
 }
 
 // A Select that matches selects; no other reply changes that.
@@ -213,7 +173,8 @@ pub fn dispatch(
         Turn::Silent { selected } => mute(fill, next, selected),
         Turn::Reply { chosen, wait } => {
             let h = done(chosen, setup, status, f, page, fill, next, flash, meta);
-            let a = reply(h, wait, f, room);
+            let said = h.status;
+            let a = replies::reply(said, h.len, h.restart, wait, f, room);
             Dispatched {
                 answer: a,
                 fill: h.fill,

@@ -16,7 +16,8 @@ use Rattle.device.specs.declared.State.{State}
 use Rattle.device.specs.Refusals.{setUp, wellFormed, runFits, lengthsOf, refusalOf}
 use Rattle.handler.specs.Handling.{held}
 use Rattle.dispatcher.specs.Dispatch.{Ending, dispatchOf}
-use Rattle.feed.specs.Feed.{Called, stateWith, quietBy, endedBy, afterRead, takenOf, refusedBy, fedOf, refusalFor}
+use Rattle.device.specs.State.{stateWith}
+use Rattle.feed.specs.Feed.{Called, quietBy, endedBy, afterRead, takenOf, refusedBy, fedOf, refusalFor}
 
 -- the reading of a true beginning, r being what the reader left
 module _ (cap page : ℕ) (s : Setup) (st : State) (l flash meta room : List ℕ) (r : Read) (k : r ≡ readOf cap true (st .frame .bytes) (st .frame .got) l)

@@ -9,7 +9,7 @@ use Rattle.laws.specs.Low.{lowBytes}
 use Rattle.commands.specs.Reset.{resetRefused, resetOf}
 use Rattle.device.specs.declared.Setup.{Setup}
 use Rattle.starts.specs.Starts.{newState}
-use Rattle.dispatcher.specs.Answers.{Told, mute, reply, restart}
+use Rattle.replies.specs.Answers.{Told, mute, reply, restart}
 use Rattle.feed.specs.Feed.{Called, fedOf}
 use Rattle.feed.proofs.Rules.{call-rules}
 

@@ -9,7 +9,8 @@ use Rattle.platform.specs.State.{stateRead, appPresent}
 use Rattle.info.specs.Info.{appVersion, infoOf}
 use Rattle.device.specs.Refusals.{eraseFits, capacityFits, setUp, runFits, wellFormed, lengthsOf, refusalOf}
 use Rattle.handler.specs.Handling.{handledOf}
-use Rattle.dispatcher.specs.Dispatch.{replyOf, answeredOf, obeyedOf, unaddressedOf, addressedOf, dispatchOf}
+use Rattle.replies.specs.Reply.{replyOf}
+use Rattle.dispatcher.specs.Dispatch.{answeredOf, obeyedOf, unaddressedOf, addressedOf, dispatchOf}
 use Rattle.feed.specs.Feed.{afterRead, takenOf, fedOf}
 
 -- a frame: its reading, Info, Select, and its reply

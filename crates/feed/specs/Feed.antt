@@ -6,14 +6,15 @@ use lib.ListN.{length}
 use lib.Dec.{eqb}
 use Rattle.laws.specs.Pick.{pick}
 use Rattle.frames.specs.Reading.{readFrame}
-use Rattle.frames.specs.Stored.{framed, begun, ready, Read, outOf}
+use Rattle.frames.specs.Stored.{begun, ready, Read, outOf}
 use Rattle.device.specs.declared.Setup.{Setup}
 use Rattle.device.specs.declared.State.{State}
 use Rattle.device.specs.Refusals.{refusalOf}
+use Rattle.device.specs.State.{stateWith}
 use Rattle.feed.specs.declared.Fed.{Fed}
 use Rattle.feed.specs.declared.Passed.{Passed}
-use Rattle.dispatcher.specs.declared.Answer.{Answer}
-use Rattle.dispatcher.specs.Answers.{Told, mute, toldOf}
+use Rattle.replies.specs.declared.Answer.{Answer}
+use Rattle.replies.specs.Answers.{Told, mute, toldOf}
 use Rattle.handler.specs.Handling.{held}
 use Rattle.dispatcher.specs.Dispatch.{Ending, dispatchOf}
 
@@ -25,10 +26,6 @@ pub record Called : Type 0 where
   pub flash : List ℕ
   pub meta : List ℕ
   pub room : List ℕ
-
-abbrev pub stateWith : List ℕ → ℕ → List ℕ → ℕ → ℕ → Bool → Bool → State
-stateWith f g p fill next selected closed =
-    record { frame = framed f g; page = p; fill = fill; next = next; selected = selected; closed = closed }
 
 abbrev pub passedWith : ℕ → ℕ → ℕ → Bool → Bool → ℕ → Answer → Passed
 passedWith got fill next selected closed taken answer =

@@ -4,9 +4,9 @@ use device::Setup;
 use device::State;
 use device::refusal;
 use device::refusal::Refusal;
-use dispatcher::Answer;
 use dispatcher::dispatch;
 use frames::frame::Stop;
+use replies::Answer;
 use tinyboot_protocol::Status;
 ghost use mathlib.Core.Path.{_≡_};
 ghost use mathlib.Core.Bool.{true, false};
@@ -15,8 +15,9 @@ ghost use lib.ListN.{length};
 ghost use Rattle.tinyboot_protocol.specs.Names.{statusNumber};
 ghost use Rattle.frames.specs.Stored.{wellOf, saidOf};
 ghost use Rattle.device.specs.Refusals.{refusalNumber, refusalOf};
-ghost use Rattle.dispatcher.specs.Answers.{mute, toldOf};
-ghost use Rattle.feed.specs.Feed.{stateWith, passedWith, passedTo, fedTo, takenOf, fedOf};
+ghost use Rattle.replies.specs.Answers.{mute, toldOf};
+ghost use Rattle.device.specs.State.{stateWith};
+ghost use Rattle.feed.specs.Feed.{passedWith, passedTo, fedTo, takenOf, fedOf};
 
 // The state afterwards, how many bytes of the piece were taken, and what the call says.
 pub struct Fed {

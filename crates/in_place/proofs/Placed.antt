@@ -7,11 +7,11 @@ use mathlib.Core.List.{List, _++_}
 use lib.ListN.{length, take, drop, take-append-drop}
 use Rattle.frames.specs.declared.frame.Stop.{Stop}
 use Rattle.frames.specs.Stored.{seen}
-use Rattle.dispatcher.specs.declared.Answer.{Answer}
+use Rattle.replies.specs.declared.Answer.{Answer}
 use Rattle.dispatcher.specs.declared.dispatch.Dispatched.{Dispatched}
 use Rattle.dispatcher.specs.Dispatch.{Ending}
 use Rattle.device.specs.declared.Setup.{Setup}
-use Rattle.dispatcher.specs.Answers.{Told, mute, toldOf}
+use Rattle.replies.specs.Answers.{Told, mute, toldOf}
 use Rattle.feed.specs.Feed.{Called, passedWith, quietBy, endedBy, refusedBy, fedOf}
 use Rattle.in_place.specs.On.{pageIn, restIn, stateIn, EndingOn, endingOn, endBy, CalledOn, calledOn, onBy, fedOn}
 

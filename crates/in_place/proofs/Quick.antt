@@ -14,8 +14,9 @@ use Rattle.frames.specs.Stored.{wellOf, Read, quiet, readOf, partOf}
 use Rattle.frames.proofs.Parts.{part-of-whole}
 use Rattle.device.specs.declared.Setup.{Setup}
 use Rattle.device.specs.Refusals.{setUp, runFits, wellFormed, lengthsOf, refusalOf}
-use Rattle.dispatcher.specs.Answers.{mute}
-use Rattle.feed.specs.Feed.{Called, stateWith, fedOf}
+use Rattle.replies.specs.Answers.{mute}
+use Rattle.device.specs.State.{stateWith}
+use Rattle.feed.specs.Feed.{Called, fedOf}
 use Rattle.feed.proofs.Feeding.{Allowed, allowed, call-quiet, call-taken}
 use Rattle.in_place.specs.On.{frameIn, pageIn, stateIn}
 use Rattle.in_place.specs.Byte.{plainAt, Laid, laidTo, layByteOf, clearOf, byteOn}

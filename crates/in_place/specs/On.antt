@@ -9,10 +9,11 @@ use Rattle.laws.specs.Pick.{pick}
 use Rattle.device.specs.declared.Setup.{Setup}
 use Rattle.device.specs.declared.State.{State}
 use Rattle.dispatcher.specs.declared.dispatch.Dispatched.{Dispatched}
-use Rattle.dispatcher.specs.Answers.{Told, mute, toldOf}
+use Rattle.replies.specs.Answers.{Told, mute, toldOf}
 use Rattle.dispatcher.specs.Dispatch.{Ending}
 use Rattle.feed.specs.declared.Passed.{Passed}
-use Rattle.feed.specs.Feed.{Called, stateWith, fedOf}
+use Rattle.device.specs.State.{stateWith}
+use Rattle.feed.specs.Feed.{Called, fedOf}
 
 abbrev pub frameIn : ℕ → List ℕ → List ℕ
 frameIn cap s = take (12 + cap) s

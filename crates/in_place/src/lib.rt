@@ -4,7 +4,6 @@
 use device::Setup;
 use device::refusal;
 use device::refusal::Refusal;
-use dispatcher::Answer;
 use dispatcher::dispatch;
 use dispatcher::dispatch::Dispatched;
 use feed::Passed;
@@ -13,6 +12,7 @@ use feed::is_going;
 use feed::refused;
 use feed::status_of;
 use frames::frame;
+use replies::Answer;
 use tinyboot_protocol::Status;
 use tinyboot_protocol::le;
 ghost use mathlib.Core.Path.{_≡_};

@@ -2,10 +2,10 @@
 // the end, how many bytes of a frame have begun. A restart ends it.
 use device::Setup;
 use device::State;
-use dispatcher::Answer;
 use feed::feed;
 use libc::STDIN_FILENO;
 use libc::STDOUT_FILENO;
+use replies::Answer;
 use starts::start;
 use tinyboot_protocol::COMPAT_UNSET;
 

@@ -3,7 +3,7 @@
  * The archive is for x86-64 and keeps nothing between calls: all that a device is stands in the caller's buffers. The flash is an array in memory, not a chip's
  * flash; an erase and a write change the array. The library wants memcpy, memmove and memset of the C library, and nothing else.
  *
- * What is proved of each call is the definition of its name in ../specs/Calls.antt (tinyboot_feed: cFed, tinyboot_start: cStarted, tinyboot_new_state: cNew),
+ * What is proved of each call is the definition of its name in ../specs/Calls.antt (tinyboot_feed: cFed, tinyboot_start: cStarted; tinyboot_new_state: cNew in c_start),
  * with the layouts of ../../c_layout/specs/Layout.antt. It is proved of buffers as slices, so it holds where the caller keeps to this:
  *   - a pointer and a length name that many bytes that the call may read, or read and write where the pointer is not const; no pointer is null, even at length 0;
  *   - no buffer that a call writes overlaps another buffer of the same call.

@@ -6,7 +6,7 @@ use native.Mathlib.Omega.{arith}
 use lib.ListN.{length, drop, length-append, length-drop, drop-of-length-le}
 use lib.Seq.{paste}
 use Rattle.laws.specs.Over.{over}
-use Rattle.dispatcher.specs.Answers.{Told, toldOf}
+use Rattle.replies.specs.Answers.{Told, toldOf}
 use Rattle.feed.specs.declared.Passed.{Passed}
 use Rattle.feed.specs.Feed.{Called}
 use Rattle.in_place.specs.On.{restIn, CalledOn, calledOn, onBy}

@@ -22,8 +22,9 @@ use Rattle.frames.specs.Stored.{goes, wellOf}
 use Rattle.frames.proofs.Reading.{going-size}
 use Rattle.device.specs.declared.State.{State}
 use Rattle.device.specs.Refusals.{runFits, wellFormed}
-use Rattle.dispatcher.specs.Answers.{mute}
-use Rattle.feed.specs.Feed.{Called, stateWith, refusalFor, refusedBy, takenOf, fedOf}
+use Rattle.replies.specs.Answers.{mute}
+use Rattle.device.specs.State.{stateWith}
+use Rattle.feed.specs.Feed.{Called, refusalFor, refusedBy, takenOf, fedOf}
 use Rattle.c_layout.specs.Layout.{part, setupFrom, holdsState, stateFrom, flagByte, numberBytes, partBytes, stateBytes, answerBytes}
 use Rattle.tinyboot_c.specs.Calls.{afterFeed, feedCalled}
 use Rattle.tinyboot_c.proofs.Copies.{part-four}

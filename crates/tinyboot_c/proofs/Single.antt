@@ -12,8 +12,9 @@ use Rattle.laws.specs.Low.{lowFirst, lowBytes}
 use Rattle.laws.specs.Over.{over}
 use Rattle.device.specs.declared.Setup.{Setup}
 use Rattle.device.specs.declared.State.{State}
-use Rattle.dispatcher.specs.Answers.{Told, mute}
-use Rattle.feed.specs.Feed.{Called, stateWith, fedOf}
+use Rattle.replies.specs.Answers.{Told, mute}
+use Rattle.device.specs.State.{stateWith}
+use Rattle.feed.specs.Feed.{Called, fedOf}
 use Rattle.in_place.specs.On.{stateIn}
 use Rattle.in_place.specs.Byte.{laidTo, byteOn}
 use Rattle.in_place.proofs.Quick.{byte-laid, byte-within, byte-fed}

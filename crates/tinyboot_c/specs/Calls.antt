@@ -10,10 +10,10 @@ use Rattle.laws.specs.Over.{over}
 use Rattle.device.specs.declared.Setup.{Setup}
 use Rattle.device.specs.declared.State.{State}
 use Rattle.device.specs.Refusals.{refusalOf}
-use Rattle.starts.specs.Starts.{Left, newState, startRefusal, startedOf}
-use Rattle.dispatcher.specs.Answers.{Told, mute}
+use Rattle.replies.specs.Answers.{mute}
 use Rattle.feed.specs.Feed.{Called, fedOf}
-use Rattle.c_layout.specs.Layout.{setupSize, stateSize, answerSize, setupFrom, holdsState, stateFrom, stateBytes, answerBytes, answered}
+use Rattle.c_layout.specs.Layout.{setupSize, answerSize, setupFrom, holdsState, stateFrom, stateBytes, answerBytes, answered}
+use Rattle.c_start.specs.Start.{AfterStart, startRefused, startIn}
 
 -- a feed: its result, and each buffer after it
 pub record AfterFeed : Type 0 where
@@ -51,54 +51,7 @@ cFed cap page setup state bytes flash meta reply answer =
     (feedRefused 11 state flash meta reply answer))
     (feedRefused 10 state flash meta reply answer)
 
--- a start: its result, and each buffer after it
-pub record AfterStart : Type 0 where
-  pub result : ℕ
-  pub state : List ℕ
-  pub meta : List ℕ
-  pub answer : List ℕ
-
-abbrev pub afterStart : ℕ → List ℕ → List ℕ → List ℕ → AfterStart
-afterStart result state meta answer = record { result = result; state = state; meta = meta; answer = answer }
-
--- the mode that a number asks for: 0 the app, every other Service
-abbrev pub asked : ℕ → ℕ
-asked mode = pick (eqb mode 0) 0 1
-
--- what a start says: no reply
-abbrev pub startTold : ℕ → ℕ → Told
-startTold number mode = record { number = number; len = 0; wait = 0; mode = mode }
-
--- no room, where nothing else refuses
-abbrev pub orNoRoom : ℕ → ℕ
-orNoRoom number = pick (eqb number 0) 14 number
-
-abbrev pub startRefused : ℕ → List ℕ → List ℕ → List ℕ → AfterStart
-startRefused number state meta answer = afterStart number state meta (answered (mute number) 0 answer)
-
--- what the device's start left, in the buffers; the state only where it was not refused
-abbrev pub startCalled : Left → List ℕ → List ℕ → AfterStart
-startCalled x state answer =
-    afterStart (x .answer) (pick (eqb (x .answer) 0) (stateBytes (x .state)) state) (x .meta)
-    (over (answerBytes (startTold (x .answer) (x .mode)) 0) answer)
-
+-- a start of the setup that the bytes hold
 unfoldable pub cStarted : ℕ → ℕ → ℕ → List ℕ → List ℕ → List ℕ → List ℕ → List ℕ → AfterStart
 cStarted cap page mode setup state flash meta answer =
-    pick (eqb (length setup) setupSize)
-    (pick (eqb (length state) (stateSize cap page))
-    (pick (ltb (length answer) answerSize)
-    (startRefused (orNoRoom (startRefusal page (setupFrom setup) (length flash) (length meta))) state meta answer)
-    (startCalled (startedOf cap page (setupFrom setup) (asked mode) flash meta) state answer))
-    (startRefused 11 state meta answer))
-    (startRefused 10 state meta answer)
-
--- a new state: the result, and the buffer, which another length leaves as it is
-pub record AfterNew : Type 0 where
-  pub result : ℕ
-  pub state : List ℕ
-
-abbrev pub afterNew : ℕ → List ℕ → AfterNew
-afterNew result state = record { result = result; state = state }
-
-unfoldable pub cNew : ℕ → ℕ → List ℕ → AfterNew
-cNew cap page state = pick (eqb (length state) (stateSize cap page)) (afterNew 0 (stateBytes (newState cap page false))) (afterNew 11 state)
+    pick (eqb (length setup) setupSize) (startIn cap page mode (setupFrom setup) state flash meta answer) (startRefused 10 state meta answer)

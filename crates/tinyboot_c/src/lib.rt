@@ -1,19 +1,20 @@
 // The device for programs in C or Rust: each call takes and leaves plain bytes. Ours: the Rust has no such interface.
 mod feeding;
 mod layout;
-mod starting;
 mod state;
 
 use crate::layout::setup_from;
-use crate::state::lay_new;
 use c_layout::holds_setup;
 use c_layout::holds_state;
 use c_layout::refuse;
+use c_start::new_in;
+use c_start::start_in;
 use tinyboot_protocol::crc::crc16;
 ghost use mathlib.Core.Path.{_≡_};
 ghost use Rattle.tinyboot_protocol.specs.Crc.{crcFrom};
 ghost use Rattle.c_layout.specs.Layout.{stateSize};
-ghost use Rattle.tinyboot_c.specs.Calls.{afterNew, cNew, afterFeed, cFed, afterStart, cStarted};
+ghost use Rattle.c_start.specs.Start.{afterNew, cNew, afterStart};
+ghost use Rattle.tinyboot_c.specs.Calls.{afterFeed, cFed, cStarted};
 
 // How many bytes a state takes.
 #[no_mangle]
@@ -36,11 +37,7 @@ pub extern "C" fn tinyboot_crc16(crc: u16, bytes: &[u8]) -> u16
 pub extern "C" fn tinyboot_new_state(state: &mut [u8]) -> u8
     ensures { λ r. ⌜ afterNew r (now (state .exit)) ≡ cNew 52 64 (now (state .entry)) ⌝ }
 {
-    if state.len() != 136 {
-        return 11;
-    }
-    lay_new(state, false);
-    0
+    new_in(state)
 }
 
 // Takes the bytes up to the end of the first frame in them, and carries that frame out.
@@ -86,12 +83,6 @@ pub extern "C" fn tinyboot_start(
     if !holds_setup(setup) {
         return refuse(answer, 10);
     }
-    if state.len() != 136 {
-        return refuse(answer, 11);
-    }
     let s = setup_from(setup);
-    if answer.len() < 16 {
-        return starting::unanswered(s, flash.len(), meta.len());
-    }
-    starting::started(mode, s, state, flash, meta, answer)
+    start_in(mode, s, state, flash, meta, answer)
 }

@@ -2,14 +2,12 @@
 use crate::layout::four;
 use crate::layout::lay;
 use crate::layout::wide;
-use c_layout::new_bytes;
 use c_layout::number_bytes;
 ghost use mathlib.Core.Path.{_≡_};
 ghost use Prim.Native.Nat.{_≤_, _+_};
 ghost use lib.ListN.{length};
 ghost use lib.Seq.{paste};
-ghost use Rattle.c_layout.specs.Layout.{part, numberBytes, stateBytes};
-ghost use Rattle.starts.specs.Starts.{newState};
+ghost use Rattle.c_layout.specs.Layout.{part, numberBytes};
 ghost use Rattle.tinyboot_c.specs.Inner.{numbersFrom};
 
 // What a state has beside its arrays.
@@ -61,13 +59,4 @@ pub(crate) fn lay_numbers(
 {
     let n = number_bytes(got, fill, next, selected, closed);
     lay(s, 128, &n);
-}
-
-// A new state, laid over bytes that are as many as a state's.
-pub(crate) fn lay_new(s: &mut [u8], closed: bool)
-    requires { ⌜ length (now s) ≡ 136 ⌝ }
-    ensures { λ r. ⌜ now (s .exit) ≡ stateBytes (newState 52 64 closed) ⌝ }
-{
-    let new = new_bytes(closed);
-    lay(s, 0, &new);
 }

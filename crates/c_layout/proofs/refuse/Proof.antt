@@ -1,5 +1,5 @@
 use mathlib.Core.Path.{ap, _∙_}
-use Rattle.dispatcher.specs.Answers.{mute}
+use Rattle.replies.specs.Answers.{mute}
 use Rattle.c_layout.specs.Layout.{answered}
 use Rattle.c_layout.proofs.Answering.{told-by}
 use borrow.Author.Needs.{needs}

@@ -1,5 +1,5 @@
 use Rattle.feed.proofs.Feeding.{call-quiet, call-ended}
-use Rattle.feed.specs.Feed.{stateWith}
+use Rattle.device.specs.State.{stateWith}
 use mathlib.Core.Bool.{false}
 use mathlib.Core.Path.{sym, _∙_}
 use native.Mathlib.Omega.{arith}

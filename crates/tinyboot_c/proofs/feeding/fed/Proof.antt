@@ -6,7 +6,7 @@ use Rattle.c_layout.specs.Layout.{setupFrom, stateFrom}
 use Rattle.tinyboot_c.specs.Calls.{AfterFeed, feedCalled}
 use mathlib.Core.Path.{_≡_, refl, ap, sym, _∙_}
 use lib.ListN.{length}
-use Rattle.dispatcher.specs.Answers.{mute}
+use Rattle.replies.specs.Answers.{mute}
 use Rattle.c_layout.specs.Inner.{toldBy}
 use Rattle.c_layout.proofs.Answering.{told-by, answer-laid}
 use Rattle.c_layout.proofs.Holding.{holds-size}

@@ -2,7 +2,7 @@ use Prim.Native.Nat.{_≤_}
 use mathlib.Core.Path.{_≡_, sym, _∙_}
 use native.Mathlib.Omega.{arith}
 use lib.ListN.{length}
-use Rattle.dispatcher.specs.Answers.{toldOf}
+use Rattle.replies.specs.Answers.{toldOf}
 use Rattle.in_place.proofs.Placed.{on-long}
 use Rattle.feed.specs.Feed.{Called, fedOf}
 use Rattle.c_layout.specs.Layout.{stateFrom}

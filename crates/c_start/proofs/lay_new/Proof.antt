@@ -1,0 +1,34 @@
+use Prim.Native.Nat.{ℕ}
+use mathlib.Core.Path.{ap, sym, _∙_}
+use mathlib.Core.List.{List, _++_}
+use lib.ListN.{length, drop}
+use lib.Seq.{take-all}
+use Rattle.c_start.proofs.Cases.{over-whole}
+use native.Mathlib.Omega.{arith}
+use borrow.Author.Needs.{needs}
+use Rattle.c_start.proofs.lay_new.Statement.{statement}
+use Rattle.c_start.proofs.lay_new.Tie as tie
+
+new-bytes-requires : tie.Need-new-bytes-requires
+new-bytes-requires c κs = search needs
+
+slice-aggregate-copy : tie.Need-slice-aggregate-copy
+slice-aggregate-copy c = search needs
+
+copy-requires : tie.Need-copy-requires
+copy-requires c κs = search needs
+
+same-length : tie.Need-same-length
+same-length c = search needs
+
+returns : tie.Need-returns
+returns c =
+    let a : List ℕ = c .before .before .before .before .before .before .before .args .s .now in
+    let x : List ℕ = c .before .before .before .before .before .new-bytes .result in
+    let e = c .before .before .before .before .before .new-bytes .ensures in
+    c .before .before .copy .ensures .1 ∙ ap (λ (y : List ℕ). y ++ drop (length x) a) (take-all (length x) x (omega arith)) ∙
+    over-whole x a (c .before .before .before .before .before .before .before .pre ∙ sym (ap length e)) ∙ e
+
+pub lay-new-spec : {M : Type 1} → statement M
+lay-new-spec =
+    tie.close (tie.spec new-bytes-requires slice-aggregate-copy copy-requires same-length returns)

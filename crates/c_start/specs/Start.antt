@@ -1,0 +1,63 @@
+-- What a start leaves in a C program's buffers, of a setup by value, and what a new state does (tinyboot_c/include/tinyboot.h, Calls). The order of the refusals: a
+-- buffer that is no state's (11), then those of the start in their own order; too little room for an answer counts as no room (14).
+use Prim.Native.Nat.{ℕ}
+use mathlib.Core.Bool.{Bool, false}
+use mathlib.Core.List.{List}
+use lib.ListN.{length}
+use lib.Dec.{eqb, ltb}
+use Rattle.laws.specs.Pick.{pick}
+use Rattle.laws.specs.Over.{over}
+use Rattle.device.specs.declared.Setup.{Setup}
+use Rattle.starts.specs.Starts.{Left, newState, startRefusal, startedOf}
+use Rattle.replies.specs.Answers.{Told, mute}
+use Rattle.c_layout.specs.Layout.{stateSize, answerSize, stateBytes, answerBytes, answered}
+
+-- a start: its result, and each buffer after it
+pub record AfterStart : Type 0 where
+  pub result : ℕ
+  pub state : List ℕ
+  pub meta : List ℕ
+  pub answer : List ℕ
+
+abbrev pub afterStart : ℕ → List ℕ → List ℕ → List ℕ → AfterStart
+afterStart result state meta answer = record { result = result; state = state; meta = meta; answer = answer }
+
+-- the mode that a number asks for: 0 the app, every other Service
+abbrev pub asked : ℕ → ℕ
+asked mode = pick (eqb mode 0) 0 1
+
+-- what a start says: no reply
+abbrev pub startTold : ℕ → ℕ → Told
+startTold number mode = record { number = number; len = 0; wait = 0; mode = mode }
+
+-- no room, where nothing else refuses
+abbrev pub orNoRoom : ℕ → ℕ
+orNoRoom number = pick (eqb number 0) 14 number
+
+abbrev pub startRefused : ℕ → List ℕ → List ℕ → List ℕ → AfterStart
+startRefused number state meta answer = afterStart number state meta (answered (mute number) 0 answer)
+
+-- what the device's start left, in the buffers; the state only where it was not refused
+abbrev pub startCalled : Left → List ℕ → List ℕ → AfterStart
+startCalled x state answer =
+    afterStart (x .answer) (pick (eqb (x .answer) 0) (stateBytes (x .state)) state) (x .meta)
+    (over (answerBytes (startTold (x .answer) (x .mode)) 0) answer)
+
+unfoldable pub startIn : ℕ → ℕ → ℕ → Setup → List ℕ → List ℕ → List ℕ → List ℕ → AfterStart
+startIn cap page mode s state flash meta answer =
+    pick (eqb (length state) (stateSize cap page))
+    (pick (ltb (length answer) answerSize)
+    (startRefused (orNoRoom (startRefusal page s (length flash) (length meta))) state meta answer)
+    (startCalled (startedOf cap page s (asked mode) flash meta) state answer))
+    (startRefused 11 state meta answer)
+
+-- a new state: the result, and the buffer, which another length leaves as it is
+pub record AfterNew : Type 0 where
+  pub result : ℕ
+  pub state : List ℕ
+
+abbrev pub afterNew : ℕ → List ℕ → AfterNew
+afterNew result state = record { result = result; state = state }
+
+unfoldable pub cNew : ℕ → ℕ → List ℕ → AfterNew
+cNew cap page state = pick (eqb (length state) (stateSize cap page)) (afterNew 0 (stateBytes (newState cap page false))) (afterNew 11 state)

@@ -1,0 +1,119 @@
+// A start of a setup by value on a C program's state, record and answer; and a new state. Ours: the Rust has no such interface.
+
+use c_layout::Said;
+use c_layout::lay_answer;
+use c_layout::mode_number;
+use c_layout::new_bytes;
+use c_layout::refusal_number;
+use c_layout::refuse;
+use device::Setup;
+use device::refusal::Refusal;
+use device::refusal::refuses;
+use starts::start::start;
+use tinyboot_protocol::RunMode;
+ghost use mathlib.Core.Path.{_≡_};
+ghost use Prim.Native.Nat.{_≤_};
+ghost use lib.ListN.{length};
+ghost use Rattle.tinyboot_protocol.specs.Names.{modeNumber};
+ghost use Rattle.laws.specs.Over.{over};
+ghost use Rattle.device.specs.Refusals.{refusalNumber};
+ghost use Rattle.c_layout.specs.Layout.{stateBytes, answerBytes};
+ghost use Rattle.starts.specs.Starts.{newState, startRefusal, startedOf};
+ghost use Rattle.c_start.specs.Start.{afterNew, cNew, asked, startTold, orNoRoom, afterStart, startCalled, startIn};
+
+// A new state, laid over bytes that are as many as a state's.
+fn lay_new(s: &mut [u8], closed: bool)
+    requires { ⌜ length (now s) ≡ 136 ⌝ }
+    ensures { λ r. ⌜ now (s .exit) ≡ stateBytes (newState 52 64 closed) ⌝ }
+{
+    let new = new_bytes(closed);
+    bytes::copy(&new, s);
+}
+
+// An open new state, where the buffer is as long as a state.
+pub fn new_in(state: &mut [u8]) -> u8
+    ensures { λ r. ⌜ afterNew r (now (state .exit)) ≡ cNew 52 64 (now (state .entry)) ⌝ }
+{
+    if state.len() != 136 {
+        return 11;
+    }
+    lay_new(state, false);
+    0
+}
+
+fn mode_of(mode: u8) -> RunMode
+    ensures { λ r. ⌜ modeNumber r ≡ asked mode ⌝ }
+{
+    if mode == 0 {
+        return RunMode::HandOff;
+    }
+    RunMode::Service
+}
+
+// With no room for an answer: what a feed with no room for a reply says of a new state.
+fn unanswered(setup: Setup, flash: usize, meta: usize) -> u8
+    ensures { λ r. ⌜ r ≡ orNoRoom (startRefusal 64 setup flash meta) ⌝ }
+{
+    let f = [0u8; 64];
+    refusal_number(refuses(setup, &f, 0, 0, 0xFFFF_FFFF, false, flash, meta, 0))
+}
+
+// A start's answer has no reply.
+fn lay_start(a: &mut [u8], refusal: Refusal, mode: RunMode) -> u8
+    requires { ⌜ 16 ≤ length (now a) ⌝ }
+    ensures { λ r. ⌜ (r ≡ refusalNumber refusal) ×
+        (now (a .exit) ≡ over (answerBytes (startTold (refusalNumber refusal) (modeNumber mode)) 0) (now (a .entry))) ⌝ }
+{
+    let said = Said {
+        number: refusal_number(refusal),
+        mode: mode_number(mode),
+        len: 0,
+        wait: 0,
+    };
+    lay_answer(a, said, 0)
+}
+
+fn started(
+    mode: u8,
+    setup: Setup,
+    state: &mut [u8],
+    flash: &[u8],
+    meta: &mut [u8],
+    answer: &mut [u8],
+) -> u8
+    requires { ⌜ length (now state) ≡ 136 ⌝ }
+    requires { ⌜ 16 ≤ length (now answer) ⌝ }
+    ensures { λ r. ⌜ afterStart r (now (state .exit)) (now (meta .exit)) (now (answer .exit)) ≡
+        startCalled (startedOf 52 64 setup (asked mode) (now (flash .entry)) (now (meta .entry))) (now (state .entry)) (now (answer .entry)) ⌝ }
+{
+    let s = start(setup, mode_of(mode), flash, meta);
+    let refusal = s.refusal;
+    let decision = s.mode;
+    if refusal.is_none() {
+        let new = s.state;
+        lay_new(state, new.closed);
+        return lay_start(answer, refusal, decision);
+    }
+    lay_start(answer, refusal, decision)
+}
+
+// A start, where the buffer is as long as a state.
+pub fn start_in(
+    mode: u8,
+    setup: Setup,
+    state: &mut [u8],
+    flash: &[u8],
+    meta: &mut [u8],
+    answer: &mut [u8],
+) -> u8
+    ensures { λ r. ⌜ afterStart r (now (state .exit)) (now (meta .exit)) (now (answer .exit)) ≡
+        startIn 52 64 mode setup (now (state .entry)) (now (flash .entry)) (now (meta .entry)) (now (answer .entry)) ⌝ }
+{
+    if state.len() != 136 {
+        return refuse(answer, 11);
+    }
+    if answer.len() < 16 {
+        return unanswered(setup, flash.len(), meta.len());
+    }
+    started(mode, setup, state, flash, meta, answer)
+}
