@@ -2,13 +2,13 @@
 use Prim.Native.Nat.{ℕ, _<_, _≤_}
 use mathlib.Core.Path.{_≡_, refl, ap, sym, _∙_}
 use mathlib.Core.Bool.{Bool, true, false}
-use mathlib.Core.List.{List, _++_, append-nil}
-use native.Mathlib.Omega.{arith}
-use lib.ListN.{length, drop-of-length-le}
+use mathlib.Core.List.{List}
+use lib.ListN.{length}
 use lib.Dec.{eqb, ltb}
 use borrow.Author.Tests.{eq-eqb, ne-eqb, lt-ltb, le-ltb}
 use Rattle.laws.specs.Pick.{pick}
 use Rattle.laws.specs.Over.{over}
+use Rattle.laws.proofs.Pick.{yes, no}
 use Rattle.frames.specs.Stored.{wellOf}
 use Rattle.device.specs.declared.Setup.{Setup}
 use Rattle.device.specs.Refusals.{setUp, runFits, wellFormed, lengthsOf, refusalOf}
@@ -18,16 +18,6 @@ use Rattle.replies.specs.Answers.{mute}
 use Rattle.c_layout.specs.Layout.{stateBytes, answerBytes}
 use Rattle.c_start.specs.Start as Calls
 use Rattle.c_layout.proofs.Answering.{answer-short}
-
-pub yes : {A : Type 0} (t : Bool) (a b : A) → t ≡ true → a ≡ pick t a b
-yes t a b e = ap (λ (u : Bool). pick u a b) (sym e)
-
-pub no : {A : Type 0} (t : Bool) (a b : A) → t ≡ false → b ≡ pick t a b
-no t a b e = ap (λ (u : Bool). pick u a b) (sym e)
-
--- laid over as many bytes
-pub over-whole : (x a : List ℕ) → length a ≡ length x → over x a ≡ x
-over-whole x a e = let short : length a ≤ length x = omega arith in ap (λ (v : List ℕ). x ++ v) (drop-of-length-le a short) ∙ append-nil x
 
 pub new-refused : (s : List ℕ) → (length s ≡ 136 → ⊥) → Calls.afterNew 11 s ≡ Calls.cNew 52 64 s
 unfolding Calls.cNew

@@ -50,6 +50,7 @@ use Rattle.handler.specs.Handling.{Obeyed, handledTo}
 use Rattle.replies.specs.declared.Answer.{Answer}
 use Rattle.dispatcher.specs.declared.dispatch.Dispatched.{Dispatched}
 use Rattle.replies.specs.Answers.{Told, toldOf}
+use Rattle.replies.specs.Reply.{Spoken, spoken}
 use Rattle.dispatcher.specs.Dispatch.{Ending, endedTo}
 use Rattle.feed.specs.declared.Fed.{Fed}
 use Rattle.feed.specs.declared.Passed.{Passed}
@@ -183,7 +184,7 @@ started s r r' m m' p q =
       ap (λ (v : start.Left). v .meta) e,
     )
 
--- a request handled, a frame's end, and the calls
+-- a request handled, a reply, a frame's end, and the calls
 pub handle : (s : Obeyed) (r r' : Handled) (f f' p p' l l' m m' : List ℕ) → handledTo r f p l m ≡ s → handledTo r' f' p' l' m' ≡ s →
     (r .status ≡ r' .status) × (r .len ≡ r' .len) × (r .restart ≡ r' .restart) × (r .fill ≡ r' .fill) × (r .next ≡ r' .next) × (f ≡ f') × (p ≡ p') × (l ≡ l') × (m ≡ m')
 handle s r r' f f' p p' l l' m m' i j =
@@ -198,6 +199,11 @@ handle s r r' f f' p p' l l' m m' i j =
       ap (λ (v : Obeyed). v .left .flash) e,
       ap (λ (v : Obeyed). v .left .meta) e,
     )
+
+pub reply : (s : Spoken) (r r' : Answer) (f f' o o' : List ℕ) → spoken (toldOf r) f o ≡ s → spoken (toldOf r') f' o' ≡ s → (r ≡ r') × (f ≡ f') × (o ≡ o')
+reply s r r' f f' o o' p q =
+    let e = plain s _ _ p q in
+    (answer-apart r r' (ap (λ (v : Spoken). v .told) e), ap (λ (v : Spoken). v .bytes) e, ap (λ (v : Spoken). v .room) e)
 
 pub dispatch : (s : Ending) (r r' : Dispatched) (f f' p p' l l' m m' o o' : List ℕ) → endedTo r f p l m o ≡ s → endedTo r' f' p' l' m' o' ≡ s →
     (r .answer ≡ r' .answer) × (r .fill ≡ r' .fill) × (r .next ≡ r' .next) × (r .selected ≡ r' .selected) × (r .closed ≡ r' .closed) ×

@@ -1,5 +1,5 @@
 -- One byte that is only stored: the call on it is the feed's.
-use Prim.Native.Nat.{ℕ, zero, suc, _+_, _≤_, _<_}
+use Prim.Native.Nat.{ℕ, _+_, _≤_, _<_}
 use mathlib.Core.Path.{_≡_, refl, ap, sym, _∙_}
 use mathlib.Core.List.{List, [], _∷_, _++_}
 use mathlib.Core.Bool.{Bool, true, false, _&&_}
@@ -10,6 +10,7 @@ use lib.Seq.{drop-set-lt, length-take-le, set-append-left}
 use lib.Dec.{leb, eqb}
 use Rattle.laws.specs.Pick.{pick}
 use Rattle.laws.proofs.Bools.{and-both}
+use Rattle.laws.proofs.Lists.{take-set}
 use Rattle.frames.specs.Stored.{wellOf, Read, quiet, readOf, partOf}
 use Rattle.frames.proofs.Parts.{part-of-whole}
 use Rattle.device.specs.declared.Setup.{Setup}
@@ -30,13 +31,6 @@ clear-run a b c x y = rw (x, y) refl
 
 pub clear-none : (a d : Bool) → a ≡ false → false ≡ a && d
 clear-none a d x = rw x refl
-
--- a store before the cut is a store in what is taken
-take-set : (n : ℕ) (l : List ℕ) (i a : ℕ) → i < n → take n (set l i a) ≡ set (take n l) i a
-take-set zero l i a h = absurd (omega arith)
-take-set (suc n) [] i a h = refl
-take-set (suc n) (x ∷ l) zero a h = refl
-take-set (suc n) (x ∷ l) (suc i) a h = ap (λ (r : List ℕ). x ∷ r) (take-set n l i a (omega arith))
 
 -- the cases of the call
 module _ (erase capacity idLen got fill next : ℕ) (closed : Bool) (s : List ℕ) (b flash meta room : ℕ) where

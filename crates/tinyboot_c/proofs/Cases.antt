@@ -7,13 +7,13 @@ use lib.ListN.{length}
 use lib.Dec.{eqb, ltb}
 use borrow.Author.Tests.{lt-ltb, le-ltb}
 use Rattle.laws.specs.Pick.{pick}
+use Rattle.laws.proofs.Pick.{yes, no}
 use Rattle.replies.specs.Answers.{mute}
 use Rattle.feed.specs.Feed.{fedOf}
 use Rattle.c_layout.specs.Layout.{setupFrom, holdsState, stateFrom}
 use Rattle.c_start.specs.Start.{AfterStart, startRefused, startIn}
 use Rattle.tinyboot_c.specs.Calls
 use Rattle.c_layout.proofs.Answering.{answer-short}
-use Rattle.c_start.proofs.Cases.{yes, no}
 
 -- a feed, case by case
 module _ (setup state bytes flash meta reply answer : List ℕ) where

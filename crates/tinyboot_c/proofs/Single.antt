@@ -53,12 +53,17 @@ module _ (f p : List ℕ) (lf : length f ≡ 64) (lp : length p ≡ 64) (got fil
       sym (apart n d) ∙
       ap (λ (v : ℕ). partBytes d p (low ++ (v ∷ rest))) (sym (mod-eq-of-lt k))
 
--- what the code gave for the setup's and the state's numbers is what stands in their bytes
+-- what `byte_on` says, t, and leaves of a state, by what stands in the setup's and the state's bytes
+abbrev pub OnByte : List ℕ → List ℕ → ℕ → ℕ → ℕ → ℕ → List ℕ → Bool → Type 0
+OnByte setup state b flash meta room after t =
+    laidTo t after ≡ byteOn 52 64 (setupFrom setup .«erase_size») (setupFrom setup .capacity) (setupFrom setup .«id_len») (getD state 132 0) (getD state 133 0)
+    (lowFirst (part 128 4 state)) (eqb (getD state 135 0) 1) state b flash meta room
+
+-- the numbers that the code read are those that stand there
 pub byte-known : (setup state : List ℕ) (b flash meta room : ℕ) (r : Bool) (after : List ℕ) (erase capacity idLen : ℕ) (n : Numbers) →
     laidTo r after ≡ byteOn 52 64 erase capacity idLen (n .got) (n .fill) (n .next) (n .closed) state b flash meta room →
     erase ≡ lowFirst (part 0 4 setup) → capacity ≡ lowFirst (part 4 4 setup) → idLen ≡ getD setup 8 0 → n ≡ numbersFrom state → (t : Bool) → r ≡ t →
-    laidTo t after ≡ byteOn 52 64 (setupFrom setup .«erase_size») (setupFrom setup .capacity) (setupFrom setup .«id_len») (getD state 132 0) (getD state 133 0)
-    (lowFirst (part 128 4 state)) (eqb (getD state 135 0) 1) state b flash meta room
+    OnByte setup state b flash meta room after t
 byte-known setup state b flash meta room r after erase capacity idLen n e ke kc ki kn t w = rw (w, ke, kc, ki, kn) at e
 
 -- the answer to it
@@ -70,8 +75,7 @@ byte-answered said k result kr state f m r answer laid kl x e =
     rw (z, kl, k) e
 
 module _ (setup state : List ℕ) (h : holdsState 52 64 state ≡ true) (byte : (i : ℕ) → i < length state → getD state i 0 < 256) (b flash meta room : ℕ) (after : List ℕ)
-    (e : laidTo true after ≡ byteOn 52 64 (setupFrom setup .«erase_size») (setupFrom setup .capacity) (setupFrom setup .«id_len») (getD state 132 0)
-    (getD state 133 0) (lowFirst (part 128 4 state)) (eqb (getD state 135 0) 1) state b flash meta room) where
+    (e : OnByte setup state b flash meta room after true) where
   abbrev got : ℕ
   got = getD state 132 0
 

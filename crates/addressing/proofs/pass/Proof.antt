@@ -69,10 +69,13 @@ loop-less c = search needs
 
 loop-again : tie.Need-loop-again Inv-loop μ-loop
 loop-again c =
-    let a = c .before .before .before .before .before .before .before .before .before .before .args in
-    let v = c .before .before .before .before .before .before .loop in
-    let l : length (a .f .now) ≡ 64 = c .before .before .before .before .before .before .before .before .before .before .pre .1 in
-    let n = c .before .before .before .before .at-most-8 in (
+    let at-at-most-8 = c .before .before .before .before in
+    let at-loop = at-at-most-8 .before .before in
+    let at-entry = at-loop .before .before .before .before in
+    let a = at-entry .args in
+    let v = at-loop .loop in
+    let l : length (a .f .now) ≡ 64 = at-entry .pre .1 in
+    let n = at-at-most-8 .at-most-8 in (
       omega arith,
       omega arith,
       turn (a .uid .now) (a .f .now) (v .f) (countOf (a .f .now)) (v .rem) (v .i) (n .result) (v .diff) (c .before .differ .result) (omega arith) (v .inv .0) (omega arith)

@@ -3,7 +3,7 @@ use mathlib.Core.Path.{ap, sym, _∙_}
 use mathlib.Core.List.{List, _++_}
 use lib.ListN.{length, drop}
 use lib.Seq.{take-all}
-use Rattle.c_start.proofs.Cases.{over-whole}
+use Rattle.laws.proofs.Lists.{over-whole}
 use native.Mathlib.Omega.{arith}
 use borrow.Author.Needs.{needs}
 use Rattle.c_start.proofs.lay_new.Statement.{statement}

@@ -11,9 +11,11 @@ same-length c = search needs
 
 returns : tie.Need-returns
 returns c =
-    let a = c .before .before .before .before .before .before .before .before .before .args in
+    let at-if1 = c .before .before .before .before in
+    let at-entry = at-if1 .before .before .before .before .before in
+    let a = at-entry .args in
     let e = c .before .before .refuse .ensures in
-    rw (e .0, e .1) (start-no-state (a .mode) (a .setup) (a .state .now) (a .flash .now) (a .meta .now) (a .answer .now) (c .before .before .before .before .if1 .taken))
+    rw (e .0, e .1) (start-no-state (a .mode) (a .setup) (a .state .now) (a .flash .now) (a .meta .now) (a .answer .now) (at-if1 .if1 .taken))
 
 unanswered-requires : tie.Need-unanswered-requires
 unanswered-requires c κs = search needs

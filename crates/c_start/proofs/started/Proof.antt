@@ -34,13 +34,19 @@ same-length-3 c = search needs
 
 returns : tie.Need-returns
 returns c =
-    let a = c .before .before .before .before .before .before .before .before .before .before .before .before .before .before .before .before .before .before .before .before .args in
+    let at-lay-new = c .before .before .before .before .before .before in
+    let at-if1 = at-lay-new .before .before .before in
+    let at-is-none = at-if1 .before in
+    let at-start = at-is-none .before .before .before in
+    let at-mode-of = at-start .before .before in
+    let at-entry = at-mode-of .before .before .before .before .before in
+    let a = at-entry .args in
     let e = c .before .before .lay-start .ensures in
-    let x = startedTo (c .before .before .before .before .before .before .before .before .before .before .before .before .before .start .result) (c .before .before .before .before .before .before .before .before .before .before .before .before .before .start .last .1 .1 .1 .0) in
-    let k = rw (c .before .before .before .before .before .before .before .before .before .before .before .before .before .before .before .mode-of .ensures) at (c .before .before .before .before .before .before .before .before .before .before .before .before .before .start .ensures) in
+    let x = startedTo (at-start .start .result) (at-start .start .last .1 .1 .1 .0) in
+    let k = rw (at-mode-of .mode-of .ensures) at (at-start .start .ensures) in
     start-laid x _ k (a .state .now) (a .answer .now) _ (e .0) _ (e .1) _
-    (c .before .before .before .before .before .before .lay-new .ensures ∙ ap stateBytes (new-started x 52 64 (a .setup) (asked (a .mode)) (a .flash .now) (a .meta .now) k))
-    (sym (c .before .before .before .before .before .before .before .before .before .before .is-none .ensures) ∙ c .before .before .before .before .before .before .before .before .before .if1 .taken)
+    (at-lay-new .lay-new .ensures ∙ ap stateBytes (new-started x 52 64 (a .setup) (asked (a .mode)) (a .flash .now) (a .meta .now) k))
+    (sym (at-is-none .is-none .ensures) ∙ at-if1 .if1 .taken)
 
 lay-start-requires-2 : tie.Need-lay-start-requires-2
 lay-start-requires-2 c κs = search needs
@@ -53,10 +59,15 @@ same-length-5 c = search needs
 
 returns-2 : tie.Need-returns-2
 returns-2 c =
-    let a = c .before .before .before .before .before .before .before .before .before .before .before .before .before .before .before .args in
+    let at-if1 = c .before .before .before .before in
+    let at-is-none = at-if1 .before in
+    let at-start = at-is-none .before .before .before in
+    let at-mode-of = at-start .before .before in
+    let at-entry = at-mode-of .before .before .before .before .before in
+    let a = at-entry .args in
     let e = c .before .before .lay-start2 .ensures in
-    let x = startedTo (c .before .before .before .before .before .before .before .before .start .result) (c .before .before .before .before .before .before .before .before .start .last .1 .1 .1 .0) in
-    start-kept x _ (rw (c .before .before .before .before .before .before .before .before .before .before .mode-of .ensures) at (c .before .before .before .before .before .before .before .before .start .ensures)) (a .state .now) (a .answer .now) _ (e .0) _ (e .1) (sym (c .before .before .before .before .before .is-none .ensures) ∙ c .before .before .before .before .if1 .left)
+    let x = startedTo (at-start .start .result) (at-start .start .last .1 .1 .1 .0) in
+    start-kept x _ (rw (at-mode-of .mode-of .ensures) at (at-start .start .ensures)) (a .state .now) (a .answer .now) _ (e .0) _ (e .1) (sym (at-is-none .is-none .ensures) ∙ at-if1 .if1 .left)
 
 pub started-spec : {M : Type 1} → statement M
 started-spec =

@@ -70,9 +70,13 @@ same-length-4 : tie.Need-same-length-4
 same-length-4 c = search needs
 
 returns-2 : tie.Need-returns-2
-returns-2 c = let a = c .before .before .before .before .before .before .before .before .before .before .before .before .before .args in
+returns-2 c =
+    let at-cmd-erase = c .before .before .before .before .before in
+    let at-enum-told2 = at-cmd-erase .before .before .before .before in
+    let at-entry = at-enum-told2 .before .before .before .before in
+    let a = at-entry .args in
     let r = c .bare .ensures in
-    rw (r, c .before .before .before .before .before .before .before .before .before .enum-told2 .given .1) (ap (erased (held (a .f .now) (a .page .now) (a .fill) (a .next) (a .flash .now) (a .meta .now))) (c .before .before .before .before .before .cmd-erase .ensures))
+    rw (r, at-enum-told2 .enum-told2 .given .1) (ap (erased (held (a .f .now) (a .page .now) (a .fill) (a .next) (a .flash .now) (a .meta .now))) (at-cmd-erase .cmd-erase .ensures))
 
 same-length-5 : tie.Need-same-length-5
 same-length-5 c = search needs
@@ -81,9 +85,12 @@ same-length-6 : tie.Need-same-length-6
 same-length-6 c = search needs
 
 returns-3 : tie.Need-returns-3
-returns-3 c = let a = c .before .before .before .before .before .before .before .before .before .before .before .before .args in
+returns-3 c =
+    let at-enum-told3 = c .before .before .before .before .before .before .before .before in
+    let at-entry = at-enum-told3 .before .before .before .before in
+    let a = at-entry .args in
     let r = c .bare2 .ensures in
-    rw (r, c .before .before .before .before .before .before .before .before .enum-told3 .given .1) (ap (wrote (held (a .f .now) (a .page .now) (a .fill) (a .next) (a .flash .now) (a .meta .now))) (c .before .before .before .cmd-write .ensures))
+    rw (r, at-enum-told3 .enum-told3 .given .1) (ap (wrote (held (a .f .now) (a .page .now) (a .fill) (a .next) (a .flash .now) (a .meta .now))) (c .before .before .before .cmd-write .ensures))
 
 same-length-7 : tie.Need-same-length-7
 same-length-7 c = search needs
@@ -92,8 +99,11 @@ same-length-8 : tie.Need-same-length-8
 same-length-8 c = search needs
 
 returns-4 : tie.Need-returns-4
-returns-4 c = let a = c .before .before .before .before .before .before .before .before .before .before .args in
-    rw (c .before .before .before .before .before .before .enum-told4 .given .1) (c .before .before .check .ensures (a .page .now))
+returns-4 c =
+    let at-enum-told4 = c .before .before .before .before .before .before in
+    let at-entry = at-enum-told4 .before .before .before .before in
+    let a = at-entry .args in
+    rw (at-enum-told4 .enum-told4 .given .1) (c .before .before .check .ensures (a .page .now))
 
 same-length-9 : tie.Need-same-length-9
 same-length-9 c = search needs
@@ -102,9 +112,12 @@ same-length-10 : tie.Need-same-length-10
 same-length-10 c = search needs
 
 returns-5 : tie.Need-returns-5
-returns-5 c = let a = c .before .before .before .before .before .before .before .before .before .before .before .args in
+returns-5 c =
+    let at-enum-told5 = c .before .before .before .before .before .before .before in
+    let at-entry = at-enum-told5 .before .before .before .before in
+    let a = at-entry .args in
     let r = c .restart .ensures in
-    rw (r, c .before .before .before .before .before .before .before .enum-told5 .given .1) (ap (resets (held (a .f .now) (a .page .now) (a .fill) (a .next) (a .flash .now) (a .meta .now))) (c .before .before .before .cmd-reset .ensures))
+    rw (r, at-enum-told5 .enum-told5 .given .1) (ap (resets (held (a .f .now) (a .page .now) (a .fill) (a .next) (a .flash .now) (a .meta .now))) (c .before .before .before .cmd-reset .ensures))
 
 returns-6 : tie.Need-returns-6
 returns-6 c = let r = c .bare3 .ensures in

@@ -40,8 +40,13 @@ same-length-2 c = search needs
 
 returns-2 : tie.Need-returns-2
 unfolding handledOf
-returns-2 c = let q = c .before .before .before .before .before .before .before .before .before .before .cmd in
-    rw (found (cmdNumber (q .given .0 .0)) (getD (c .before .before .before .before .before .before .before .before .before .before .before .before .before .before .before .before .args .f .now) 2 0) (rw (q .given .1) at (c .before .before .before .before .before .before .before .before .before .before .before .before .from-u8 .ensures))) at (c .before .before .before .before .carry .ensures)
+returns-2 c =
+    let at-carry = c .before .before .before .before in
+    let at-cmd = at-carry .before .before .before .before .before .before in
+    let at-from-u8 = at-cmd .before .before in
+    let at-entry = at-from-u8 .before .before .before .before in
+    let q = at-cmd .cmd in
+    rw (found (cmdNumber (q .given .0 .0)) (getD (at-entry .args .f .now) 2 0) (rw (q .given .1) at (at-from-u8 .from-u8 .ensures))) at (at-carry .carry .ensures)
 
 pub handle-spec : {M : Type 1} → statement M
 handle-spec =

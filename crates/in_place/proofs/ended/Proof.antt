@@ -31,10 +31,14 @@ same-length-4 c = search needs
 
 returns : tie.Need-returns
 returns c =
-    let a = c .before .before .before .before .before .before .before .before .before .before .before .before .before .before .before .before .before .before .before .before .before .before .before .before .before .before .args in
-    let e = c .before .before .before .before .before .before .before .before .before .before .before .before .dispatch .ensures in
+    let at-dispatch = c .before .before .before .before .before .before .before .before .before .before .before .before in
+    let at-taken-out2 = at-dispatch .before .before .before .before .before .before in
+    let at-taken-out = at-taken-out2 .before .before in
+    let at-entry = at-taken-out .before .before .before .before .before .before in
+    let a = at-entry .args in
+    let e = at-dispatch .dispatch .ensures in
     rw (c .before .before .put-back .ensures)
-    (ap (endBy (restIn 52 64 (a .s .now))) (rw (c .before .before .before .before .before .before .before .before .before .before .before .before .before .before .before .before .before .before .before .before .taken-out .ensures, c .before .before .before .before .before .before .before .before .before .before .before .before .before .before .before .before .before .before .taken-out2 .ensures) at e))
+    (ap (endBy (restIn 52 64 (a .s .now))) (rw (at-taken-out .taken-out .ensures, at-taken-out2 .taken-out2 .ensures) at e))
 
 pub ended-spec : {M : Type 1} → statement M
 ended-spec =

@@ -28,9 +28,14 @@ is-none-requires c κs = search needs
 
 pass-requires : tie.Need-pass-requires
 pass-requires c κs =
-    let a = c .before .before .before .before .before .before .before .before .before .before .before .before .before .before .args in
-    let o = allowed 52 64 (a .setup) (take 64 (a .s .now)) (a .got) (a .fill) (a .next) (a .closed) _ _ _ _ (c .before .before .before .before .before .before .refusal-of .ensures) _ (c .before .before .before .before .before .is-none .ensures) (c .before .before .before .before .if2 .taken) in
-    (c .before .before .before .before .before .before .before .before .if1 .left, o .well)
+    let at-if2 = c .before .before .before .before in
+    let at-is-none = at-if2 .before in
+    let at-refusal-of = at-is-none .before in
+    let at-if1 = at-refusal-of .before .before in
+    let at-entry = at-if1 .before .before .before .before .before .before in
+    let a = at-entry .args in
+    let o = allowed 52 64 (a .setup) (take 64 (a .s .now)) (a .got) (a .fill) (a .next) (a .closed) _ _ _ _ (at-refusal-of .refusal-of .ensures) _ (at-is-none .is-none .ensures) (at-if2 .if2 .taken) in
+    (at-if1 .if1 .left, o .well)
 
 same-length : tie.Need-same-length
 same-length c = search needs
@@ -46,12 +51,18 @@ same-length-4 c = search needs
 
 returns-2 : tie.Need-returns-2
 returns-2 c =
-    let a = c .before .before .before .before .before .before .before .before .before .before .before .before .before .before .before .before .before .before .before .before .before .before .before .args in
+    let at-pass = c .before .before .before .before .before .before .before .before in
+    let at-if2 = at-pass .before .before .before .before .before in
+    let at-is-none = at-if2 .before in
+    let at-refusal-of = at-is-none .before in
+    let at-if1 = at-refusal-of .before .before in
+    let at-entry = at-if1 .before .before .before .before .before .before in
+    let a = at-entry .args in
     let s : List ℕ = a .s .now in
-    c .before .before .before .before .before .before .before .before .pass .ensures ∙
+    at-pass .pass .ensures ∙
     ap (onBy (restIn 52 64 s))
-    (call-taken 52 64 (a .setup) (frameIn 52 s) (a .got) (pageIn 52 64 s) (a .fill) (a .next) (a .selected) (a .closed) (a .bytes .now) (a .flash .now) (a .meta .now) (a .reply .now) _ (c .before .before .before .before .before .before .before .before .before .before .before .before .before .before .before .refusal-of .ensures) _ (c .before .before .before .before .before .before .before .before .before .before .before .before .before .before .is-none .ensures) (c .before .before .before .before .before .before .before .before .before .before .before .before .before .if2 .taken) _ refl) ∙
-    on-long (a .setup) s (a .got) (a .fill) (a .next) (a .selected) (a .closed) (a .bytes .now) (a .flash .now) (a .meta .now) (a .reply .now) (c .before .before .before .before .before .before .before .before .before .before .before .before .before .before .before .before .before .if1 .left)
+    (call-taken 52 64 (a .setup) (frameIn 52 s) (a .got) (pageIn 52 64 s) (a .fill) (a .next) (a .selected) (a .closed) (a .bytes .now) (a .flash .now) (a .meta .now) (a .reply .now) _ (at-refusal-of .refusal-of .ensures) _ (at-is-none .is-none .ensures) (at-if2 .if2 .taken) _ refl) ∙
+    on-long (a .setup) s (a .got) (a .fill) (a .next) (a .selected) (a .closed) (a .bytes .now) (a .flash .now) (a .meta .now) (a .reply .now) (at-if1 .if1 .left)
 
 refused-requires : tie.Need-refused-requires
 refused-requires c κs = search needs
@@ -64,11 +75,14 @@ same-length-5 c = search needs
 
 returns-3 : tie.Need-returns-3
 returns-3 c =
-    let a = c .before .before .before .before .before .before .before .before .before .before .before .before .args in
+    let at-refusal-of = c .before .before .before .before in
+    let at-if1 = at-refusal-of .before .before in
+    let at-entry = at-if1 .before .before .before .before .before .before in
+    let a = at-entry .args in
     let s : List ℕ = a .s .now in
     rw (c .after2 .ensures)
-    (on-refused (a .setup) s (a .got) (a .fill) (a .next) (a .selected) (a .closed) (a .bytes .now) (a .flash .now) (a .meta .now) (a .reply .now) (c .before .before .before .before .before .before .if1 .left) (refusalNumber (c .before .before .before .before .refusal-of .result)) (c .before .refused .result) (c .before .refused .ensures)
-    (call-refused 52 64 (a .setup) (frameIn 52 s) (a .got) (pageIn 52 64 s) (a .fill) (a .next) (a .selected) (a .closed) (a .bytes .now) (a .flash .now) (a .meta .now) (a .reply .now) _ (c .before .before .before .before .refusal-of .ensures) _ (c .before .before .before .is-none .ensures) (c .before .before .if2 .left)))
+    (on-refused (a .setup) s (a .got) (a .fill) (a .next) (a .selected) (a .closed) (a .bytes .now) (a .flash .now) (a .meta .now) (a .reply .now) (at-if1 .if1 .left) (refusalNumber (at-refusal-of .refusal-of .result)) (c .before .refused .result) (c .before .refused .ensures)
+    (call-refused 52 64 (a .setup) (frameIn 52 s) (a .got) (pageIn 52 64 s) (a .fill) (a .next) (a .selected) (a .closed) (a .bytes .now) (a .flash .now) (a .meta .now) (a .reply .now) _ (at-refusal-of .refusal-of .ensures) _ (c .before .before .before .is-none .ensures) (c .before .before .if2 .left)))
 
 pub feed-on-spec : {M : Type 1} → statement M
 feed-on-spec =

@@ -19,10 +19,13 @@ same-length c = search needs
 
 returns : tie.Need-returns
 returns c =
-    let a = c .before .before .before .before .before .before .before .before .before .before .before .args in
-    let lf : length (a .f .now) ≡ 64 = search (c .before .before .before .before .before .before .before .before .lay-arg2 .given, needs) in
+    let at-lay = c .before .before .before .before .before .before .before in
+    let at-lay-arg2 = at-lay .before in
+    let at-entry = at-lay-arg2 .before .before .before in
+    let a = at-entry .args in
+    let lf : length (a .f .now) ≡ 64 = search (at-lay-arg2 .lay-arg2 .given, needs) in
     let lp : length (a .page .now) ≡ 64 = search (c .before .before .before .lay-arg4 .given, needs) in
-    c .before .before .lay2 .ensures ∙ ap (λ (x : List ℕ). paste x 64 (a .page .now) 64) (c .before .before .before .before .before .before .before .lay .ensures) ∙
+    c .before .before .lay2 .ensures ∙ ap (λ (x : List ℕ). paste x 64 (a .page .now) 64) (at-lay .lay .ensures) ∙
     laid (a .s .now) (a .f .now) (a .page .now) lf lp
 
 pub put-back-spec : {M : Type 1} → statement M

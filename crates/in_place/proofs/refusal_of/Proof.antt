@@ -35,9 +35,14 @@ of-lengths-requires c κs = search needs
 returns : tie.Need-returns
 unfolding refusalOf wellFormed
 returns c =
-    let a = c .before .before .before .before .before .before .before .before .before .args in
-    let w = tested (a .s .now) (a .got) (c .before .before .before .before .before .before .before .before .before .pre) _ (c .before .before .begins .ensures) ∙ c .before .if3 .taken in
-    simp (sym (c .before .before .before .before .before .before .before .set-up .ensures) ∙ c .before .before .before .before .before .before .if1 .taken, sym (c .before .before .before .before .before .run-fits .ensures) ∙ c .before .before .before .before .if2 .taken, w) (c .of-lengths .ensures)
+    let at-if2 = c .before .before .before .before in
+    let at-run-fits = at-if2 .before in
+    let at-if1 = at-run-fits .before in
+    let at-set-up = at-if1 .before in
+    let at-entry = at-set-up .before .before in
+    let a = at-entry .args in
+    let w = tested (a .s .now) (a .got) (at-entry .pre) _ (c .before .before .begins .ensures) ∙ c .before .if3 .taken in
+    simp (sym (at-set-up .set-up .ensures) ∙ at-if1 .if1 .taken, sym (at-run-fits .run-fits .ensures) ∙ at-if2 .if2 .taken, w) (c .of-lengths .ensures)
 
 returns-2 : tie.Need-returns-2
 unfolding refusalOf wellFormed

@@ -87,7 +87,8 @@ lay-requires c κs = search needs
 
 returns : tie.Need-returns
 returns c =
-    let a = c .before .before .before .before .before .before .before .before .before .before .before .before .before .args in
+    let at-entry = c .before .before .before .before .before .before .before .before .before .before .before .before .before in
+    let a = at-entry .args in
     let b = c .before .before .before in
     c .lay .ensures ∙
     ap (λ (l : List ℕ). infoLaid (a .f .now) l)

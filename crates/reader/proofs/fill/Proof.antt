@@ -32,11 +32,13 @@ same-length c = search needs
 
 returns : tie.Need-returns
 returns c =
-    let a = c .before .before .before .before .before .before .before .before .before .before .args in
-    let h = c .before .before .before .before .before .before .before .before .before .before .pre in
+    let at-copy = c .before .before .before .before .before .before in
+    let at-entry = at-copy .before .before .before .before in
+    let a = at-entry .args in
+    let h = at-entry .pre in
     let d : List ℕ = drop (a .at) (a .bytes .now) in
     c .before .before .copy2 .ensures ∙
-    ap (λ (x : List ℕ). paste (a .f .now) (a .got) (drop 0 x) (a .m)) (c .before .before .before .before .before .before .copy .ensures) ∙
+    ap (λ (x : List ℕ). paste (a .f .now) (a .got) (drop 0 x) (a .m)) (at-copy .copy .ensures) ∙
     copied-on (a .f .now) _ d (a .got) (a .m) (omega (arith, length-drop (a .at) (a .bytes .now)))
 
 pub fill-spec : {M : Type 1} → statement M

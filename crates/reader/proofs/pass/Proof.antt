@@ -36,9 +36,12 @@ same-length c = search needs
 
 returns : tie.Need-returns Inv-loop μ-loop
 returns c =
-    let a = c .before .before .before .before .before .before .before .before .before .before .before .before .before .args in
-    let v = c .before .before .before .before .before .before .before .before .before .before .loop in
-    let t = c .before .before .before .before .before .before .before .take-turn in
+    let at-take-turn = c .before .before .before .before .before .before .before in
+    let at-loop = at-take-turn .before .before .before in
+    let at-entry = at-loop .before .before .before in
+    let a = at-entry .args in
+    let v = at-loop .loop in
+    let t = at-take-turn .take-turn in
     let e = c .before .before .end .given in
     rw (c .told .ensures)
     (over-at 52 (a .device) (a .bytes .now) _ (v .f) (v .got) (v .i) (v .inv) (t .last .0) (t .result .got) (t .result .taken) (e .0 .0) (rw (e .1) at (t .ensures)))
@@ -52,9 +55,12 @@ loop-less c = let t = c .before .before .before .before .before .take-turn in
 
 loop-again : tie.Need-loop-again Inv-loop μ-loop
 loop-again c =
-    let a = c .before .before .before .before .before .before .before .before .before .before .before .args in
-    let v = c .before .before .before .before .before .before .before .before .loop in
-    let t = c .before .before .before .before .before .take-turn in
+    let at-take-turn = c .before .before .before .before .before in
+    let at-loop = at-take-turn .before .before .before in
+    let at-entry = at-loop .before .before .before in
+    let a = at-entry .args in
+    let v = at-loop .loop in
+    let t = at-take-turn .take-turn in
     again 52 (a .device) (a .bytes .now) _ (v .f) (v .got) (v .i) (v .inv) (t .last .0) (t .result .got) (t .result .taken) (rw (c .enum-told .given .1) at (t .ensures))
 
 same-length-2 : tie.Need-same-length-2 Inv-loop μ-loop

@@ -33,13 +33,17 @@ pass-requires c κs =
 
 same-length : tie.Need-same-length
 same-length c =
-    let f : List ℕ = c .before .before .before .before .before .before .before .before .before .args .f .now in
+    let at-entry = c .before .before .before .before .before .before .before .before .before in
+    let f : List ℕ = at-entry .args .f .now in
     c .before .f .given ∙ length-set (set f 0 0xAA) 1 0x55 ∙ length-set f 0 0xAA
 
 returns : tie.Need-returns
 returns c =
-    let a = c .before .before .before .before .before .before .before .before .before .args in
-    let t = sym (c .before .before .before .before .before .begins .ensures) ∙ c .before .before .before .before .if1 .taken in
+    let at-if1 = c .before .before .before .before in
+    let at-begins = at-if1 .before in
+    let at-entry = at-begins .before .before .before .before in
+    let a = at-entry .args in
+    let t = sym (at-begins .begins .ensures) ∙ at-if1 .if1 .taken in
     let l : length (a .f .now) ≡ 64 = part-length 52 (a .device) (a .f .now) (a .got) t in
     (rw (stores (a .f .now) (omega arith), part-start 52 (a .device) (a .f .now) (a .got) t .same) at (c .before .before .pass .ensures)) ∙
     part-read 52 (a .device) (a .f .now) (a .got) t (a .bytes .now)

@@ -22,8 +22,9 @@ same-length c = search needs
 
 returns : tie.Need-returns
 returns c =
-    let a = c .before .before .before .before .before .before .before .before .before .before .args in
-    let p = c .before .before .before .before .before .before .before .before .before .before .pre in
+    let at-entry = c .before .before .before .before .before .before .before .before .before .before in
+    let a = at-entry .args in
+    let p = at-entry .pre in
     let u = c .before .before .push in
     byte-turn 52 (a .device) (a .f .now) (a .got) (p .1) (a .bytes .now) (a .at) (p .0) (u .last .0) (u .result .got) (u .result .end) (u .ensures)
 
@@ -42,23 +43,31 @@ fill-requires c κs =
 
 add-t17 : tie.Need-add-t17
 add-t17 c =
-    let a = c .before .before .before .before .before .before .before .before .before .before .args in
-    let p = c .before .before .before .before .before .before .before .before .before .before .pre in
-    let e = c .before .before .before .before .before .before .wanted .ensures in
-    let m = c .before .before .before .before .least in
-    omega (arith, wanted-fits 52 (a .device) (a .f .now) (a .got) (p .1) (a .bytes .now) (a .at) (m .result) (p .0) (λ z. c .before .before .before .before .before .if1 .left (e ∙ z)) (rw e at (m .ensures)))
+    let at-least = c .before .before .before .before in
+    let at-if1 = at-least .before in
+    let at-wanted = at-if1 .before in
+    let at-entry = at-wanted .before .before .before .before in
+    let a = at-entry .args in
+    let p = at-entry .pre in
+    let e = at-wanted .wanted .ensures in
+    let m = at-least .least in
+    omega (arith, wanted-fits 52 (a .device) (a .f .now) (a .got) (p .1) (a .bytes .now) (a .at) (m .result) (p .0) (λ z. at-if1 .if1 .left (e ∙ z)) (rw e at (m .ensures)))
 
 same-length-2 : tie.Need-same-length-2
 same-length-2 c = search needs
 
 returns-2 : tie.Need-returns-2
 returns-2 c =
-    let a = c .before .before .before .before .before .before .before .before .before .before .args in
-    let p = c .before .before .before .before .before .before .before .before .before .before .pre in
-    let e = c .before .before .before .before .before .before .wanted .ensures in
-    let m = c .before .before .before .before .least in
+    let at-least = c .before .before .before .before in
+    let at-if1 = at-least .before in
+    let at-wanted = at-if1 .before in
+    let at-entry = at-wanted .before .before .before .before in
+    let a = at-entry .args in
+    let p = at-entry .pre in
+    let e = at-wanted .wanted .ensures in
+    let m = at-least .least in
     rw (c .before .before .fill .ensures)
-    (wanted-turn 52 (a .device) (a .f .now) (a .got) (p .1) (a .bytes .now) (a .at) (m .result) (p .0) (λ z. c .before .before .before .before .before .if1 .left (e ∙ z)) (rw e at (m .ensures)))
+    (wanted-turn 52 (a .device) (a .f .now) (a .got) (p .1) (a .bytes .now) (a .at) (m .result) (p .0) (λ z. at-if1 .if1 .left (e ∙ z)) (rw e at (m .ensures)))
 
 pub take-turn-spec : {M : Type 1} → statement M
 take-turn-spec =

@@ -45,12 +45,17 @@ same-length c = search needs
 
 returns-3 : tie.Need-returns-3
 returns-3 c =
-    let a = c .before .before .before .before .before .before .before .before .before .before .before .before .before .before .args in
-    let e = c .before .before .before .before .before .before .before .before .before .before .read16 .ensures in
+    let at-seal = c .before .before .before .before .before .before in
+    let at-if2 = at-seal .before .before in
+    let at-if1 = at-if2 .before in
+    let at-read16 = at-if1 .before in
+    let at-entry = at-read16 .before .before .before .before in
+    let a = at-entry .args in
+    let e = at-read16 .read16 .ensures in
     let l : length (a .f .now) ≡ 64 = search needs in
-    let s : lenOf (a .f .now) ≤ 52 = rw e at (c .before .before .before .before .before .before .before .before .before .if1 .left) in
-    let k : 12 + lenOf (a .f .now) ≤ length (a .room .now) = rw e at (c .before .before .before .before .before .before .before .before .if2 .left) in
-    rw (c .before .before .copy-out .ensures, c .before .before .before .before .before .before .seal .ensures, e)
+    let s : lenOf (a .f .now) ≤ 52 = rw e at (at-if1 .if1 .left) in
+    let k : 12 + lenOf (a .f .now) ≤ length (a .room .now) = rw e at (at-if2 .if2 .left) in
+    rw (c .before .before .copy-out .ensures, at-seal .seal .ensures, e)
     (send-done (a .f .now) (a .room .now) s k (omega arith))
 
 pub send-spec : {M : Type 1} → statement M

@@ -18,9 +18,12 @@ same-length c = search needs
 
 returns : tie.Need-returns
 returns c =
-    let a = c .before .before .before .before .before .before .before .before .before .before .before .before .before .args in
+    let at-if1 = c .before .before .before .before in
+    let at-holds-setup = at-if1 .before in
+    let at-entry = at-holds-setup .before .before .before .before .before .before .before .before in
+    let a = at-entry .args in
     let e = c .before .before .refuse .ensures in
-    rw (e .0, e .1) (feed-no-setup (a .setup .now) (a .state .now) (a .bytes .now) (a .flash .now) (a .meta .now) (a .reply .now) (a .answer .now) (sym (c .before .before .before .before .before .holds-setup .ensures) ∙ not-true _ (c .before .before .before .before .if1 .taken)))
+    rw (e .0, e .1) (feed-no-setup (a .setup .now) (a .state .now) (a .bytes .now) (a .flash .now) (a .meta .now) (a .reply .now) (a .answer .now) (sym (at-holds-setup .holds-setup .ensures) ∙ not-true _ (at-if1 .if1 .taken)))
 
 holds-state-requires : tie.Need-holds-state-requires
 holds-state-requires c κs = search needs
@@ -31,19 +34,31 @@ setup-from-requires c κs =
 
 unanswered-requires : tie.Need-unanswered-requires
 unanswered-requires c κs =
-    holds-size (c .before .before .before .before .before .before .before .before .before .before .before .before .before .before .before .args .state .now) (sym (c .before .before .before .before .holds-state .ensures) ∙ c .before .before .before .if2 .taken)
+    let at-holds-state = c .before .before .before .before in
+    let at-entry = at-holds-state .before .before .before .before .before .before .before .before .before .before .before in
+    holds-size (at-entry .args .state .now) (sym (at-holds-state .holds-state .ensures) ∙ c .before .before .before .if2 .taken)
 
 same-length-2 : tie.Need-same-length-2
 same-length-2 c = search needs
 
 returns-2 : tie.Need-returns-2
 returns-2 c =
-    let a = c .before .before .before .before .before .before .before .before .before .before .before .before .before .before .before .before .args in
-    feed-short (a .setup .now) (a .state .now) (a .bytes .now) (a .flash .now) (a .meta .now) (a .reply .now) (a .answer .now) (sym (c .before .before .before .before .before .before .before .before .holds-setup .ensures) ∙ not-false _ (c .before .before .before .before .before .before .before .if1 .left)) (sym (c .before .before .before .before .before .holds-state .ensures) ∙ c .before .before .before .before .if2 .taken) (c .before .before .before .if3 .taken) _ (rw (c .before .before .setup-from .ensures) at (c .unanswered .ensures))
+    let at-if2 = c .before .before .before .before in
+    let at-holds-state = at-if2 .before in
+    let at-if1 = at-holds-state .before .before in
+    let at-holds-setup = at-if1 .before in
+    let at-entry = at-holds-setup .before .before .before .before .before .before .before .before in
+    let a = at-entry .args in
+    feed-short (a .setup .now) (a .state .now) (a .bytes .now) (a .flash .now) (a .meta .now) (a .reply .now) (a .answer .now) (sym (at-holds-setup .holds-setup .ensures) ∙ not-false _ (at-if1 .if1 .left)) (sym (at-holds-state .holds-state .ensures) ∙ at-if2 .if2 .taken) (c .before .before .before .if3 .taken) _ (rw (c .before .before .setup-from .ensures) at (c .unanswered .ensures))
 
 fed-requires : tie.Need-fed-requires
 fed-requires c κs =
-    (eqb-true _ 31 (sym (c .before .before .before .before .before .before .before .before .before .before .holds-setup .ensures) ∙ not-false _ (c .before .before .before .before .before .before .before .before .before .if1 .left)), ((sym (c .before .before .before .before .before .before .before .holds-state .ensures) ∙ c .before .before .before .before .before .before .if2 .taken), c .before .before .before .before .before .if3 .left))
+    let at-if3 = c .before .before .before .before .before in
+    let at-if2 = at-if3 .before in
+    let at-holds-state = at-if2 .before in
+    let at-if1 = at-holds-state .before .before in
+    let at-holds-setup = at-if1 .before in
+    (eqb-true _ 31 (sym (at-holds-setup .holds-setup .ensures) ∙ not-false _ (at-if1 .if1 .left)), ((sym (at-holds-state .holds-state .ensures) ∙ at-if2 .if2 .taken), at-if3 .if3 .left))
 
 same-length-3 : tie.Need-same-length-3
 same-length-3 c = search needs
@@ -62,8 +77,15 @@ same-length-7 c = search needs
 
 returns-3 : tie.Need-returns-3
 returns-3 c =
-    let a = c .before .before .before .before .before .before .before .before .before .before .before .before .before .before .before .before .before .before .before .before .before .before .before .before .before .before .before .before .before .args in
-    feed-called (a .setup .now) (a .state .now) (a .bytes .now) (a .flash .now) (a .meta .now) (a .reply .now) (a .answer .now) (sym (c .before .before .before .before .before .before .before .before .before .before .before .before .before .before .before .before .before .before .before .before .before .holds-setup .ensures) ∙ not-false _ (c .before .before .before .before .before .before .before .before .before .before .before .before .before .before .before .before .before .before .before .before .if1 .left)) (sym (c .before .before .before .before .before .before .before .before .before .before .before .before .before .before .before .before .before .before .holds-state .ensures) ∙ c .before .before .before .before .before .before .before .before .before .before .before .before .before .before .before .before .before .if2 .taken) (c .before .before .before .before .before .before .before .before .before .before .before .before .before .before .before .before .if3 .left) _ (c .before .before .before .before .before .before .before .before .before .before .fed .ensures)
+    let at-fed = c .before .before .before .before .before .before .before .before .before .before in
+    let at-if3 = at-fed .before .before .before .before .before .before in
+    let at-if2 = at-if3 .before in
+    let at-holds-state = at-if2 .before in
+    let at-if1 = at-holds-state .before .before in
+    let at-holds-setup = at-if1 .before in
+    let at-entry = at-holds-setup .before .before .before .before .before .before .before .before in
+    let a = at-entry .args in
+    feed-called (a .setup .now) (a .state .now) (a .bytes .now) (a .flash .now) (a .meta .now) (a .reply .now) (a .answer .now) (sym (at-holds-setup .holds-setup .ensures) ∙ not-false _ (at-if1 .if1 .left)) (sym (at-holds-state .holds-state .ensures) ∙ at-if2 .if2 .taken) (at-if3 .if3 .left) _ (at-fed .fed .ensures)
 
 refuse-requires-2 : tie.Need-refuse-requires-2
 refuse-requires-2 c κs = search needs
@@ -76,9 +98,14 @@ same-length-9 c = search needs
 
 returns-4 : tie.Need-returns-4
 returns-4 c =
-    let a = c .before .before .before .before .before .before .before .before .before .before .before .before .before .before .before .before .args in
+    let at-if2 = c .before .before .before .before in
+    let at-holds-state = at-if2 .before in
+    let at-if1 = at-holds-state .before .before in
+    let at-holds-setup = at-if1 .before in
+    let at-entry = at-holds-setup .before .before .before .before .before .before .before .before in
+    let a = at-entry .args in
     let e = c .before .before .refuse2 .ensures in
-    rw (e .0, e .1) (feed-no-state (a .setup .now) (a .state .now) (a .bytes .now) (a .flash .now) (a .meta .now) (a .reply .now) (a .answer .now) (sym (c .before .before .before .before .before .before .before .before .holds-setup .ensures) ∙ not-false _ (c .before .before .before .before .before .before .before .if1 .left)) (sym (c .before .before .before .before .before .holds-state .ensures) ∙ c .before .before .before .before .if2 .left))
+    rw (e .0, e .1) (feed-no-state (a .setup .now) (a .state .now) (a .bytes .now) (a .flash .now) (a .meta .now) (a .reply .now) (a .answer .now) (sym (at-holds-setup .holds-setup .ensures) ∙ not-false _ (at-if1 .if1 .left)) (sym (at-holds-state .holds-state .ensures) ∙ at-if2 .if2 .left))
 
 pub tinyboot-feed-spec : {M : Type 1} → statement M
 tinyboot-feed-spec =

@@ -22,7 +22,9 @@ adopted-requires : tie.Need-adopted-requires
 adopted-requires c κs = search needs
 
 same-length : tie.Need-same-length
-same-length c = c .before .before .before .before .before .before .before .before .before .before .before .before .before .before .flash .given
+same-length c =
+    let at-flash = c .before .before .before .before .before .before .before .before .before .before .before .before .before .before in
+    at-flash .flash .given
 
 same-length-2 : tie.Need-same-length-2
 same-length-2 c = search needs

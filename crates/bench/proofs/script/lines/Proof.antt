@@ -26,16 +26,24 @@ add-number : tie.Need-add-number Inv-loop μ-loop
 add-number c = search needs
 
 turn-requires : tie.Need-turn-requires Inv-loop μ-loop
-turn-requires c κs = (c .before .before .before .before .before .before .before .before .before .loop .inv .0, c .before .before .before .before .before .before .before .before .before .loop .inv .1)
+turn-requires c κs =
+    let at-loop = c .before .before .before .before .before .before .before .before .before in
+    (at-loop .loop .inv .0, at-loop .loop .inv .1)
 
 same-length : tie.Need-same-length Inv-loop μ-loop
-same-length c = c .before .before .before .before .before .before .before .before .before .before .before .before .before .block .given ∙ top (c .before) .loop .inv .2
+same-length c =
+    let at-block = c .before .before .before .before .before .before .before .before .before .before .before .before .before in
+    at-block .block .given ∙ top (c .before) .loop .inv .2
 
 same-length-2 : tie.Need-same-length-2 Inv-loop μ-loop
-same-length-2 c = c .before .before .before .before .before .before .before .before .before .before .before .bytes .given ∙ top (c .before) .loop .inv .3
+same-length-2 c =
+    let at-bytes = c .before .before .before .before .before .before .before .before .before .before .before in
+    at-bytes .bytes .given ∙ top (c .before) .loop .inv .3
 
 same-length-3 : tie.Need-same-length-3 Inv-loop μ-loop
-same-length-3 c = c .before .before .before .before .before .before .before .before .before .flash .given ∙ top (c .before) .loop .inv .4
+same-length-3 c =
+    let at-flash = c .before .before .before .before .before .before .before .before .before in
+    at-flash .flash .given ∙ top (c .before) .loop .inv .4
 
 same-length-4 : tie.Need-same-length-4 Inv-loop μ-loop
 same-length-4 c = c .before .before .before .before .before .before .before .«record» .given ∙ top (c .before) .loop .inv .5
@@ -50,7 +58,9 @@ returns : tie.Need-returns Inv-loop μ-loop
 returns c = search needs
 
 loop-less : tie.Need-loop-less Inv-loop μ-loop
-loop-less c = omega (arith, c .before .before .before .before .before .before .before .before .before .before .before .before .before .before .before .before .before .before .before .before .before .before .before .loop-test .taken)
+loop-less c =
+    let at-loop-test = c .before .before .before .before .before .before .before .before .before .before .before .before .before .before .before .before .before .before .before .before .before .before .before in
+    omega (arith, at-loop-test .loop-test .taken)
 
 loop-again : tie.Need-loop-again Inv-loop μ-loop
 loop-again c =

@@ -13,10 +13,14 @@ shown-requires : tie.Need-shown-requires
 shown-requires c κs = search needs
 
 same-length : tie.Need-same-length
-same-length c = c .before .before .before .before .before .before .before .before .before .before .before .before .before .before .before .before .before .before .before .before .before .before .before .block .given
+same-length c =
+    let at-block = c .before .before .before .before .before .before .before .before .before .before .before .before .before .before .before .before .before .before .before .before .before .before .before in
+    at-block .block .given
 
 same-length-2 : tie.Need-same-length-2
-same-length-2 c = c .before .before .before .before .before .before .before .before .before .before .before .before .before .before .before .before .before .before .before .before .before .bytes .given
+same-length-2 c =
+    let at-bytes = c .before .before .before .before .before .before .before .before .before .before .before .before .before .before .before .before .before .before .before .before .before in
+    at-bytes .bytes .given
 
 same-length-3 : tie.Need-same-length-3
 same-length-3 c = search needs
@@ -31,7 +35,9 @@ same-length-6 : tie.Need-same-length-6
 same-length-6 c = search needs
 
 returns : tie.Need-returns
-returns c = c .before .before .before .before .before .before .before .before .before .before .before .before .before .before .before .before .before .before .before .before .before .before .before .before .next .ensures
+returns c =
+    let at-next = c .before .before .before .before .before .before .before .before .before .before .before .before .before .before .before .before .before .before .before .before .before .before .before .before in
+    at-next .next .ensures
 
 pub turn-spec : {M : Type 1} → statement M
 turn-spec =

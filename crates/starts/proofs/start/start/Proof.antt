@@ -19,8 +19,12 @@ same-length c = search needs
 
 returns : tie.Need-returns
 returns c =
-    let a = c .before .before .before .before .before .before .before .before .before .args in
-    start-taken (a .setup) (modeNumber (a .mode)) (a .flash .now) (a .meta .now) _ (c .before .before .before .before .before .before .refuses .ensures) _ (c .before .before .before .before .before .is-none .ensures) (c .before .before .before .before .if1 .taken) _ (c .before .before .begun .ensures)
+    let at-if1 = c .before .before .before .before in
+    let at-is-none = at-if1 .before in
+    let at-refuses = at-is-none .before in
+    let at-entry = at-refuses .before .before .before in
+    let a = at-entry .args in
+    start-taken (a .setup) (modeNumber (a .mode)) (a .flash .now) (a .meta .now) _ (at-refuses .refuses .ensures) _ (at-is-none .is-none .ensures) (at-if1 .if1 .taken) _ (c .before .before .begun .ensures)
 
 refused-requires : tie.Need-refused-requires
 refused-requires c κs = search needs

@@ -33,11 +33,14 @@ same-length-2 c = search needs
 
 returns : tie.Need-returns
 returns c =
-    let a = c .before .before .before .before .before .before .before .before .before .before .before .before .before .before .before .before .before .args in
+    let at-if1 = c .before .before .before .before .before in
+    let at-fed-byte = at-if1 .before .before .before in
+    let at-entry = at-fed-byte .before .before .before .before .before .before .before .before .before in
+    let a = at-entry .args in
     let u = c .before .before .before .unsaid .ensures in
     let v = c .before .before .lay-answer .ensures in
-    let e = rw (c .before .before .before .before .before .if1 .taken) at (c .before .before .before .before .before .before .before .before .fed-byte .ensures) in
-    byte-answered (c .before .before .before .unsaid .result) (told-by (c .before .before .before .unsaid .result) (mute 0) (u .0) (u .1) (u .2) (u .3)) _ (v .0) _ (a .flash .now) (a .meta .now) (a .reply .now) (a .answer .now) _ (v .1 ∙ sym (answer-laid (toldBy (c .before .before .before .unsaid .result)) 1 (a .answer .now) (c .before .before .before .before .before .before .before .before .before .before .before .before .before .before .before .before .before .pre .1 .1))) _
+    let e = rw (at-if1 .if1 .taken) at (at-fed-byte .fed-byte .ensures) in
+    byte-answered (c .before .before .before .unsaid .result) (told-by (c .before .before .before .unsaid .result) (mute 0) (u .0) (u .1) (u .2) (u .3)) _ (v .0) _ (a .flash .now) (a .meta .now) (a .reply .now) (a .answer .now) _ (v .1 ∙ sym (answer-laid (toldBy (c .before .before .before .unsaid .result)) 1 (a .answer .now) (at-entry .pre .1 .1))) _
     (e (a .flash .now) (a .meta .now) (a .reply .now) (a .answer .now) refl refl refl)
 
 setup-from-requires : tie.Need-setup-from-requires
@@ -45,9 +48,12 @@ setup-from-requires c κs = search needs
 
 fed-piece-requires : tie.Need-fed-piece-requires
 fed-piece-requires c κs =
-    let e = rw (c .before .before .before .before .before .before .if1 .left) at (c .before .before .before .before .before .before .before .before .before .fed-byte .ensures) in
-    let l : length (c .before .before .before .before .before .before .before .before .before .before .before .before .before .before .before .before .before .before .args .state .now) ≡ 136 = holds-size (c .before .before .before .before .before .before .before .before .before .before .before .before .before .before .before .before .before .before .args .state .now) (c .before .before .before .before .before .before .before .before .before .before .before .before .before .before .before .before .before .before .pre .1 .0) in
-    (ap length e ∙ l, c .before .before .before .before .before .before .before .before .before .before .before .before .before .before .before .before .before .before .pre .1 .1)
+    let at-if1 = c .before .before .before .before .before .before in
+    let at-fed-byte = at-if1 .before .before .before in
+    let at-entry = at-fed-byte .before .before .before .before .before .before .before .before .before in
+    let e = rw (at-if1 .if1 .left) at (at-fed-byte .fed-byte .ensures) in
+    let l : length (at-entry .args .state .now) ≡ 136 = holds-size (at-entry .args .state .now) (at-entry .pre .1 .0) in
+    (ap length e ∙ l, at-entry .pre .1 .1)
 
 same-length-3 : tie.Need-same-length-3
 same-length-3 c = search needs
@@ -66,12 +72,17 @@ same-length-7 c = search needs
 
 returns-2 : tie.Need-returns-2
 returns-2 c =
-    let a = c .before .before .before .before .before .before .before .before .before .before .before .before .before .before .before .before .before .before .before .before .before .before .before .before .before .before .before .before .before .args in
+    let at-fed-piece = c .before .before .before .before .before .before .before .before .before .before in
+    let at-setup-from = at-fed-piece .before .before .before .before .before .before in
+    let at-if1 = at-setup-from .before in
+    let at-fed-byte = at-if1 .before .before .before in
+    let at-entry = at-fed-byte .before .before .before .before .before .before .before .before .before in
+    let a = at-entry .args in
     let left : Setup → List ℕ → AfterFeed =
     λ s v. feedCalled (fedOf 52 64 s (stateFrom 52 64 v) (a .bytes .now) (a .flash .now) (a .meta .now) (a .reply .now)) (a .answer .now) in
-    let state : List ℕ = c .before .before .before .before .before .before .before .before .before .before .before .before .before .before .before .before .before .before .before .before .fed-byte .last .1 .0 in
-    let e : state ≡ a .state .now = rw (c .before .before .before .before .before .before .before .before .before .before .before .before .before .before .before .before .before .if1 .left) at (c .before .before .before .before .before .before .before .before .before .before .before .before .before .before .before .before .before .before .before .before .fed-byte .ensures) in
-    c .before .before .before .before .before .before .before .before .before .before .fed-piece .ensures ∙ ap (λ (s : Setup). left s state) (c .before .before .before .before .before .before .before .before .before .before .before .before .before .before .before .before .setup-from .ensures) ∙ ap (left (setupFrom (a .setup .now))) e
+    let state : List ℕ = at-fed-byte .fed-byte .last .1 .0 in
+    let e : state ≡ a .state .now = rw (at-if1 .if1 .left) at (at-fed-byte .fed-byte .ensures) in
+    at-fed-piece .fed-piece .ensures ∙ ap (λ (s : Setup). left s state) (at-setup-from .setup-from .ensures) ∙ ap (left (setupFrom (a .setup .now))) e
 
 pub fed-spec : {M : Type 1} → statement M
 fed-spec =

@@ -44,17 +44,22 @@ same-length-5 c = search needs
 
 returns : tie.Need-returns
 returns c =
-    let a = c .before .before .before .before .before .before .before .before .before .before .before .before .before .before .before .before .before .before .before .before .before .before .before .before .before .before .before .before .before .before .args in
-    let p = c .before .before .before .before .before .before .before .before .before .before .before .before .before .before .before .before .before .feed-on .result in
-    let ls : length (a .state .now) ≡ 136 = c .before .before .before .before .before .before .before .before .before .before .before .before .before .before .before .before .before .before .before .before .before .before .before .before .before .before .before .before .before .before .pre .0 in
+    let at-lay-numbers = c .before .before .before .before .before .before .before in
+    let at-passed = at-lay-numbers .before in
+    let at-feed-on = at-passed .before .before .before .before .before .before .before .before .before in
+    let at-numbers-from = at-feed-on .before .before .before .before .before in
+    let at-entry = at-numbers-from .before .before .before .before .before .before .before .before in
+    let a = at-entry .args in
+    let p = at-feed-on .feed-on .result in
+    let ls : length (a .state .now) ≡ 136 = at-entry .pre .0 in
     let h : 128 ≤ length (a .state .now) = omega arith in
-    let n = c .before .before .before .before .before .before .before .before .before .before .before .before .before .before .before .before .before .before .before .before .before .before .numbers-from .ensures in
-    let e = rw (n) at (c .before .before .before .before .before .before .before .before .before .before .before .before .before .before .before .before .before .feed-on .ensures) in
+    let n = at-numbers-from .numbers-from .ensures in
+    let e = rw (n) at (at-feed-on .feed-on .ensures) in
     let x : Called = fedOf 52 64 (a .setup) (stateFrom 52 64 (a .state .now)) (a .bytes .now) (a .flash .now) (a .meta .now) (a .reply .now) in
     let u = c .before .before .before .numbers-of .ensures in
     let v = c .before .before .lay-answer .ensures in
-    fed-placed (a .answer .now) p (a .state .now) _ _ _ _ x ls (lay-numbers-requires (c .before .before .before .before .before .before .before .before) (c .before .before .before .before .before .before .before .lay-numbers .lifetimes)) (e ∙ sym (on-long _ _ _ _ _ _ _ _ _ _ _ h))
-    _ (told-by _ (toldOf (p .answer)) (u .0) (u .1) (u .2) (u .3)) _ (v .0) _ (c .before .before .before .before .before .before .before .lay-numbers .ensures) _ (v .1 ∙ sym (answer-laid _ _ (a .answer .now) (c .before .before .before .before .before .before .before .before .before .before .before .before .before .before .before .before .before .before .before .before .before .before .before .before .before .before .before .before .before .before .pre .1)))
+    fed-placed (a .answer .now) p (a .state .now) _ _ _ _ x ls (lay-numbers-requires at-passed (at-lay-numbers .lay-numbers .lifetimes)) (e ∙ sym (on-long _ _ _ _ _ _ _ _ _ _ _ h))
+    _ (told-by _ (toldOf (p .answer)) (u .0) (u .1) (u .2) (u .3)) _ (v .0) _ (at-lay-numbers .lay-numbers .ensures) _ (v .1 ∙ sym (answer-laid _ _ (a .answer .now) (at-entry .pre .1)))
 
 pub fed-piece-spec : {M : Type 1} → statement M
 fed-piece-spec =

@@ -26,9 +26,12 @@ same-length c = search needs
 
 returns-2 : tie.Need-returns-2
 returns-2 c =
-    let a = c .before .before .before .before .before .before .before .before .before .before .before .before .args in
-    let l = c .before .before .before .before .before .before .cleared in
-    rw (c .before .before .before .before .before .before .before .before .enum-told2 .given .1)
+    let at-cleared = c .before .before .before .before .before .before in
+    let at-enum-told2 = at-cleared .before .before in
+    let at-entry = at-enum-told2 .before .before .before .before in
+    let a = at-entry .args in
+    let l = at-cleared .cleared in
+    rw (at-enum-told2 .enum-told2 .given .1)
     (rw (c .if2 .taken) at (start-judged (a .capacity) (a .flash .now) (a .meta .now) (l .result) (l .last .0) (l .ensures) (c .before .before .before .if1 .taken) (c .before .validate-app .result) (c .before .validate-app .ensures)))
 
 same-length-2 : tie.Need-same-length-2
@@ -36,9 +39,12 @@ same-length-2 c = search needs
 
 returns-3 : tie.Need-returns-3
 returns-3 c =
-    let a = c .before .before .before .before .before .before .before .before .before .before .before .before .args in
-    let l = c .before .before .before .before .before .before .cleared in
-    rw (c .before .before .before .before .before .before .before .before .enum-told2 .given .1)
+    let at-cleared = c .before .before .before .before .before .before in
+    let at-enum-told2 = at-cleared .before .before in
+    let at-entry = at-enum-told2 .before .before .before .before in
+    let a = at-entry .args in
+    let l = at-cleared .cleared in
+    rw (at-enum-told2 .enum-told2 .given .1)
     (rw (c .if2 .left) at (start-judged (a .capacity) (a .flash .now) (a .meta .now) (l .result) (l .last .0) (l .ensures) (c .before .before .before .if1 .taken) (c .before .validate-app .result) (c .before .validate-app .ensures)))
 
 same-length-3 : tie.Need-same-length-3
@@ -46,9 +52,11 @@ same-length-3 c = search needs
 
 returns-4 : tie.Need-returns-4
 returns-4 c =
-    let a = c .before .before .before .before .before .before .before .before .before .args in
+    let at-enum-told2 = c .before .before .before .before .before in
+    let at-entry = at-enum-told2 .before .before .before .before in
+    let a = at-entry .args in
     let l = c .before .before .before .cleared in
-    rw (c .before .before .before .before .before .enum-told2 .given .1) (start-stays (a .capacity) (a .flash .now) (a .meta .now) (l .result) (l .last .0) (l .ensures) (c .if1 .left))
+    rw (at-enum-told2 .enum-told2 .given .1) (start-stays (a .capacity) (a .flash .now) (a .meta .now) (l .result) (l .last .0) (l .ensures) (c .if1 .left))
 
 pub check-boot-state-spec : {M : Type 1} → statement M
 check-boot-state-spec =

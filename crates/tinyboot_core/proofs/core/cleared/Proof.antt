@@ -40,9 +40,12 @@ same-length-3 c = search needs
 
 returns-3 : tie.Need-returns-3
 returns-3 c =
-    let a = c .before .before .before .before .before .before .before .before .before .args in
+    let at-enum-told3 = c .before .before .before .before in
+    let at-boot-state = at-enum-told3 .before .before in
+    let at-entry = at-boot-state .before .before .before in
+    let a = at-entry .args in
     c .before .before .use-trial .ensures ∙
-    clear-validating (a .meta .now) _ (c .before .before .before .before .before .before .boot-state .ensures) (ap stateByte (c .before .before .before .before .enum-told3 .given .1))
+    clear-validating (a .meta .now) _ (at-boot-state .boot-state .ensures) (ap stateByte (at-enum-told3 .enum-told3 .given .1))
 
 pub cleared-spec : {M : Type 1} → statement M
 cleared-spec =

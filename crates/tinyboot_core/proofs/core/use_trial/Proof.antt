@@ -20,10 +20,13 @@ same-length c = search needs
 
 returns : tie.Need-returns
 returns c =
-    let a = c .before .before .before .before .before .before .before .before .before .args in
+    let at-if1 = c .before .before .before .before .before in
+    let at-has-trials = at-if1 .before in
+    let at-entry = at-has-trials .before .before .before in
+    let a = at-entry .args in
     let t = c .before .before .before .consume-trial in
     rw (ap (λ (x : Stepped). x .meta) (t .ensures))
-    (tried-one (a .meta .now) _ (c .before .before .before .before .before .if1 .taken) (c .before .before .before .before .before .before .has-trials .ensures) _ _ (c .done .ensures) (ap (λ (x : Stepped). x .answer) (t .ensures)))
+    (tried-one (a .meta .now) _ (at-if1 .if1 .taken) (at-has-trials .has-trials .ensures) _ _ (c .done .ensures) (ap (λ (x : Stepped). x .answer) (t .ensures)))
 
 same-length-2 : tie.Need-same-length-2
 same-length-2 c = search needs

@@ -22,10 +22,15 @@ same-length c = search needs
 
 returns : tie.Need-returns
 returns c =
-    let a = c .before .before .before .before .before .before .before .before .before .before .before .before .before .args in
+    let at-if2 = c .before .before .before .before .before .before .before in
+    let at-fits2 = at-if2 .before in
+    let at-if1 = at-fits2 .before in
+    let at-is-updating = at-if1 .before in
+    let at-entry = at-is-updating .before .before .before in
+    let a = at-entry .args in
     let w = c .before .before .before .written in
     write-done (a .capacity) (a .f .now) (a .flash .now) (a .page .now) (a .fill) (a .next) (a .meta .now)
-    (sym (c .before .before .before .before .before .before .before .before .before .before .is-updating .ensures) ∙ c .before .before .before .before .before .before .before .before .before .if1 .taken) (sym (c .before .before .before .before .before .before .before .before .fits2 .ensures) ∙ c .before .before .before .before .before .before .before .if2 .taken)
+    (sym (at-is-updating .is-updating .ensures) ∙ at-if1 .if1 .taken) (sym (at-fits2 .fits2 .ensures) ∙ at-if2 .if2 .taken)
     (running (w .last .1 .1 .0) (w .last .1 .0) (w .result .fill) (w .result .next) (w .result .failed)) (w .ensures) _ (c .status-of .ensures)
 
 returns-2 : tie.Need-returns-2

@@ -40,13 +40,17 @@ returns c =
 
 returns-2 : tie.Need-returns-2
 returns-2 c =
-    let a = c .before .before .before .before .before .before .before .before .before .args in
-    fits-first (a .capacity) (a .f .now) (a .next) _ _ (c .before .before .before .before .before .read24 .ensures) (c .before .before .read16 .ensures) (c .before .if1 .left) (c .if2 .taken)
+    let at-read24 = c .before .before .before .before .before in
+    let at-entry = at-read24 .before .before .before .before in
+    let a = at-entry .args in
+    fits-first (a .capacity) (a .f .now) (a .next) _ _ (at-read24 .read24 .ensures) (c .before .before .read16 .ensures) (c .before .if1 .left) (c .if2 .taken)
 
 returns-3 : tie.Need-returns-3
 returns-3 c =
-    let a = c .before .before .before .before .before .before .before .before .before .args in
-    fits-on (a .capacity) (a .f .now) (a .next) _ _ (c .before .before .before .before .before .read24 .ensures) (c .before .before .read16 .ensures) (c .before .if1 .left) (c .if2 .left)
+    let at-read24 = c .before .before .before .before .before in
+    let at-entry = at-read24 .before .before .before .before in
+    let a = at-entry .args in
+    fits-on (a .capacity) (a .f .now) (a .next) _ _ (at-read24 .read24 .ensures) (c .before .before .read16 .ensures) (c .before .if1 .left) (c .if2 .left)
 
 pub fits-spec : {M : Type 1} → statement M
 fits-spec =

@@ -23,10 +23,12 @@ same-length c = search needs
 
 returns-2 : tie.Need-returns-2
 returns-2 c =
-    let a = c .before .before .before .before .before .before .before .before .before .args in
+    let at-if1 = c .before .before .before .before .before in
+    let at-entry = at-if1 .before .before .before .before in
+    let a = at-entry .args in
     let o = c .over2 .ensures in
     rw (o .0, o .1, o .2)
-    (flush-rest (a .flash .now) (a .page .now) (a .w .fill) (a .w .next) (a .w .failed) (c .before .before .before .before .before .if1 .left) _ (c .before .before .before .page-out .ensures))
+    (flush-rest (a .flash .now) (a .page .now) (a .w .fill) (a .w .next) (a .w .failed) (at-if1 .if1 .left) _ (c .before .before .before .page-out .ensures))
 
 pub flush-spec : {M : Type 1} → statement M
 flush-spec =

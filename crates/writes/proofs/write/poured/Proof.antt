@@ -44,9 +44,13 @@ loop-less c = omega (arith, c .before .before .before .before .before .before .b
 
 loop-again : tie.Need-loop-again Inv-loop μ-loop
 loop-again c =
-    let a = c .before .before .before .before .before .before .before .before .before .before .before .before .before .args in
-    let l = c .before .before .before .before .before .before .before .before .before .loop in
-    pour-again (a .d .now) _ _ _ (running (l .flash) (l .page) (l .w .fill) (l .w .next) (l .w .failed)) (l .i) (l .inv) (c .before .before .before .before .before .before .before .before .loop-test .taken) _ (c .before .before .before .before .took .ensures)
+    let at-took = c .before .before .before .before in
+    let at-loop-test = at-took .before .before .before .before in
+    let at-loop = at-loop-test .before in
+    let at-entry = at-loop .before .before .before .before in
+    let a = at-entry .args in
+    let l = at-loop .loop in
+    pour-again (a .d .now) _ _ _ (running (l .flash) (l .page) (l .w .fill) (l .w .next) (l .w .failed)) (l .i) (l .inv) (at-loop-test .loop-test .taken) _ (at-took .took .ensures)
 
 same-length : tie.Need-same-length Inv-loop μ-loop
 same-length c = search needs

@@ -23,8 +23,10 @@ same-length-2 c = search needs
 
 returns : tie.Need-returns
 returns c =
-    let a = c .before .before .before .before .before .before .before .before .before .before .args in
-    took-full (a .flash .now) (a .page .now) (a .w .fill) (a .w .next) (a .w .failed) (a .b) (c .before .before .before .before .before .if1 .taken) _ (c .before .before .page-out .ensures)
+    let at-if1 = c .before .before .before .before .before in
+    let at-entry = at-if1 .before .before .before .before .before in
+    let a = at-entry .args in
+    took-full (a .flash .now) (a .page .now) (a .w .fill) (a .w .next) (a .w .failed) (a .b) (at-if1 .if1 .taken) _ (c .before .before .page-out .ensures)
 
 same-length-3 : tie.Need-same-length-3
 same-length-3 c = search needs

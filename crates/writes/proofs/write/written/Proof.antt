@@ -38,8 +38,12 @@ flush-requires c κs = search needs
 
 flush-requires-2 : tie.Need-flush-requires-2
 flush-requires-2 c κs =
-    let a = c .before .before .before .before .before .before .before .before .before .before .before .before .before .before .before .before .before .before .before .before .args in
-    written-back (a .f .now) (a .flash .now) (a .page .now) _ _ (c .before .before .before .before .before .before .before .before .before .before .before .before .before .read24 .ensures) (c .before .before .before .before .before .before .before .before .before .before .before .data-of .ensures) _ (c .before .before .before .before .before .before .before .before .poured .ensures)
+    let at-poured = c .before .before .before .before .before .before .before .before in
+    let at-data-of = at-poured .before .before .before in
+    let at-read24 = at-data-of .before .before in
+    let at-entry = at-read24 .before .before .before .before .before .before .before in
+    let a = at-entry .args in
+    written-back (a .f .now) (a .flash .now) (a .page .now) _ _ (at-read24 .read24 .ensures) (at-data-of .data-of .ensures) _ (at-poured .poured .ensures)
 
 same-length : tie.Need-same-length
 same-length c = search needs
@@ -49,9 +53,15 @@ same-length-2 c = search needs
 
 returns : tie.Need-returns
 returns c =
-    let a = c .before .before .before .before .before .before .before .before .before .before .before .before .before .before .before .before .before .before .before .before .before .before .before .args in
-    written-flush (a .f .now) (a .flash .now) (a .page .now) _ _ (c .before .before .before .before .before .before .before .before .before .before .before .before .before .before .before .before .read24 .ensures) (c .before .before .before .before .before .before .before .before .before .before .before .before .before .before .data-of .ensures) _ (c .before .before .before .before .before .before .before .before .before .before .before .poured .ensures)
-    _ (c .before .before .before .before .before .before .flush .ensures) (c .before .before .before .before .before .if1 .taken) _ (c .before .before .flush2 .ensures)
+    let at-if1 = c .before .before .before .before .before in
+    let at-flush = at-if1 .before in
+    let at-poured = at-flush .before .before .before .before .before in
+    let at-data-of = at-poured .before .before .before in
+    let at-read24 = at-data-of .before .before in
+    let at-entry = at-read24 .before .before .before .before .before .before .before in
+    let a = at-entry .args in
+    written-flush (a .f .now) (a .flash .now) (a .page .now) _ _ (at-read24 .read24 .ensures) (at-data-of .data-of .ensures) _ (at-poured .poured .ensures)
+    _ (at-flush .flush .ensures) (at-if1 .if1 .taken) _ (c .before .before .flush2 .ensures)
 
 same-length-3 : tie.Need-same-length-3
 same-length-3 c = search needs
@@ -61,8 +71,12 @@ same-length-4 c = search needs
 
 returns-2 : tie.Need-returns-2
 returns-2 c =
-    let a = c .before .before .before .before .before .before .before .before .before .before .before .before .before .before .before .before .before .before .args in
-    written-on (a .f .now) (a .flash .now) (a .page .now) _ _ (c .before .before .before .before .before .before .before .before .before .before .before .read24 .ensures) (c .before .before .before .before .before .before .before .before .before .data-of .ensures) _ (c .before .before .before .before .before .before .poured .ensures)
+    let at-poured = c .before .before .before .before .before .before in
+    let at-data-of = at-poured .before .before .before in
+    let at-read24 = at-data-of .before .before in
+    let at-entry = at-read24 .before .before .before .before .before .before .before in
+    let a = at-entry .args in
+    written-on (a .f .now) (a .flash .now) (a .page .now) _ _ (at-read24 .read24 .ensures) (at-data-of .data-of .ensures) _ (at-poured .poured .ensures)
     _ (c .before .flush .ensures) (c .if1 .left)
 
 pub written-spec : {M : Type 1} → statement M
