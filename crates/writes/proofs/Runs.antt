@@ -17,7 +17,7 @@ use Rattle.flash.specs.declared.storage.Stored.{Stored}
 use Rattle.flash.proofs.Answers.{write-all}
 use Rattle.commands.specs.Fields.{addrOf, flagsOf, dataOf, Ok, AddrOutOfBounds, Unsupported, updating}
 use Rattle.writes.specs.Write.{Run, none, pageOut, put, took, poured, over, flushed, writeFits, done, wroteTo, begin, writtenOf, cmdWriteOf}
-use Rattle.writes.proofs.Writing.{write-length, took-flash, took-page}
+use Rattle.writes.proofs.Writing.{write-length, poured-flash, poured-page}
 
 -- a page's start, and no more than is there
 write-fine : (f : List ℕ) (at n : ℕ) (p : List ℕ) → at % 64 ≡ 0 → n ≤ 64 → at + n ≤ length f → writeOf 64 f at (take n p) ≡ leaves Stored.Done (written f at (take n p))
@@ -115,16 +115,6 @@ module _ (capacity : ℕ) (f flash p : List ℕ) (l : length flash ≡ capacity)
       go false = record { below = poured-well .below; place = inr (omega (arith, poured-well .room), poured-well .place) }
 
 -- no lengths change
-poured-flash : (d : List ℕ) (w : Run) → length (poured 64 w d .flash) ≡ length (w .flash)
-unfolding poured
-poured-flash [] w = refl
-poured-flash (b ∷ d) w = poured-flash d (took 64 w b) ∙ took-flash w b
-
-poured-page : (d : List ℕ) (w : Run) → length (poured 64 w d .page) ≡ length (w .page)
-unfolding poured
-poured-page [] w = refl
-poured-page (b ∷ d) w = poured-page d (took 64 w b) ∙ took-page w b
-
 flushed-flash : (w : Run) → length (flushed 64 w .flash) ≡ length (w .flash)
 unfolding flushed
 flushed-flash w = go (eqb (w .fill) 0)

@@ -1,12 +1,12 @@
 -- A Write, step by step.
-use Prim.Native.Nat.{ℕ, _+_, _-_, _%_, _≤_, _<_}
+use Prim.Native.Nat.{ℕ, zero, suc, _+_, _-_, _%_, _≤_, _<_}
 use mathlib.Core.Path.{_≡_, refl, sym, ap, _∙_}
-use mathlib.Core.List.{List, [], _∷_}
+use mathlib.Core.List.{List, [], _∷_, _++_}
 use mathlib.Core.Bool.{Bool, true, false, _||_}
 use native.Mathlib.Omega.{arith}
 use native.Mathlib.Numerals.{add-one}
-use lib.ListN.{length, take, drop, getD, set, length-take, length-drop, length-set, drop-of-length-le}
-use lib.Seq.{take-all, drop-cons}
+use lib.ListN.{length, take, drop, getD, set, length-take, length-drop, length-set, drop-of-length-le, take-append-drop}
+use lib.Seq.{take-all, take-suc, length-take-le, drop-drop, paste, paste-zero, paste-suc}
 use lib.Dec.{eqb, ltb}
 use borrow.Author.Tests.{eq-eqb, ne-eqb, le-leb, lt-leb, eqb-false}
 use Rattle.laws.specs.Pick.{pick}
@@ -51,11 +51,11 @@ out-is flash flash' p fill next n answer failed r e k = rw (← e, k) refl
 
 -- a byte taken: the page is full with it, or not
 module _ (flash p : List ℕ) (fill next : ℕ) (failed : Bool) (b : ℕ) where
-  pub took-full : fill + 1 ≡ 64 → (w : Run) → w ≡ pageOut 64 64 (put (running flash p fill next failed) b) → w ≡ took 64 (running flash p fill next failed) b
+  took-full : fill + 1 ≡ 64 → (w : Run) → w ≡ pageOut 64 64 (put (running flash p fill next failed) b) → w ≡ took 64 (running flash p fill next failed) b
   unfolding took
   took-full h w e = rw (eq-eqb (fill + 1) 64 h) e
 
-  pub took-more : (fill + 1 ≡ 64 → ⊥) → put (running flash p fill next failed) b ≡ took 64 (running flash p fill next failed) b
+  took-more : (fill + 1 ≡ 64 → ⊥) → put (running flash p fill next failed) b ≡ took 64 (running flash p fill next failed) b
   unfolding took
   took-more h = rw (ne-eqb (fill + 1) 64 h) refl
 
@@ -125,6 +125,71 @@ unfolding poured
 poured-stands [] w s = s
 poured-stands (b ∷ d) w s = poured-stands d (took 64 w b) (took-stands w b s)
 
+pub poured-next : (d : List ℕ) (w : Run) → poured 64 w d .next ≡ w .next + length d
+unfolding poured
+poured-next [] w = omega arith
+poured-next (b ∷ d) w = poured-next d (took 64 w b) ∙ rw (took-next w b) (omega arith)
+
+pub poured-flash : (d : List ℕ) (w : Run) → length (poured 64 w d .flash) ≡ length (w .flash)
+unfolding poured
+poured-flash [] w = refl
+poured-flash (b ∷ d) w = poured-flash d (took 64 w b) ∙ took-flash w b
+
+pub poured-page : (d : List ℕ) (w : Run) → length (poured 64 w d .page) ≡ length (w .page)
+unfolding poured
+poured-page [] w = refl
+poured-page (b ∷ d) w = poured-page d (took 64 w b) ∙ took-page w b
+
+poured-append : (page : ℕ) (w : Run) (x y : List ℕ) → poured page w (x ++ y) ≡ poured page (poured page w x) y
+unfolding poured
+poured-append page w [] y = refl
+poured-append page w (b ∷ x) y = poured-append page (took page w b) x y
+
+-- bytes that the page has room for: poured one by one they are laid at once, and a full page is written
+module _ (flash p : List ℕ) (fill next : ℕ) (failed : Bool) (x : List ℕ) (l : length p ≡ 64) where
+  abbrev laid : ℕ → Run
+  laid n = running flash (paste p fill x n) (fill + n) (next + n) failed
+
+  abbrev first : ℕ → Run
+  first n = poured 64 (running flash p fill next failed) (take n x)
+
+  put-laid : (n : ℕ) → n < length x → fill + n < 64 → put (laid n) (getD x n 0) ≡ laid (n + 1)
+  put-laid n h k =
+      let e : set (paste p fill x n) (fill + n) (getD x n 0) ≡ paste p fill x (n + 1) = rw (add-one n) (paste-suc p fill x n 0 (omega (arith, l)) h) in
+      let f : fill + n + 1 ≡ fill + (n + 1) = omega arith in
+      let g : next + n + 1 ≡ next + (n + 1) = omega arith in
+      rw (e, f, g) refl
+
+  one-more : (n : ℕ) → n < length x → first (n + 1) ≡ took 64 (first n) (getD x n 0)
+  unfolding poured
+  one-more n h =
+      let e : take (n + 1) x ≡ take n x ++ (getD x n 0 ∷ []) = rw (add-one n) (take-suc x n 0 h) in
+      rw e (poured-append 64 (running flash p fill next failed) (take n x) (getD x n 0 ∷ []))
+
+  pub part-laid : (n : ℕ) → n ≤ length x → fill + n < 64 → laid n ≡ first n
+  unfolding poured
+  part-laid zero h k =
+      let a : fill + 0 ≡ fill = omega arith in
+      let b : next + 0 ≡ next = omega arith in
+      ap (λ (v : ℕ). running flash (paste p fill x 0) v (next + 0) failed) a ∙
+      ap (λ (v : ℕ). running flash (paste p fill x 0) fill v failed) b ∙
+      ap (λ (v : List ℕ). running flash v fill next failed) (sym (paste-zero p fill x))
+  part-laid (suc n) h k =
+      rw (← add-one n)
+      (sym (put-laid n (omega arith) (omega arith)) ∙
+      took-more flash (paste p fill x n) (fill + n) (next + n) failed (getD x n 0) (λ z. omega arith) ∙
+      ap (λ (v : Run). took 64 v (getD x n 0)) (part-laid n (omega arith) (omega arith)) ∙
+      sym (one-more n (omega arith)))
+
+  pub part-out : (n : ℕ) → 0 < n → n ≤ length x → fill + n ≡ 64 → pageOut 64 64 (laid n) ≡ first n
+  part-out zero z h k = absurd (omega arith)
+  part-out (suc n) z h k =
+      rw (← add-one n)
+      (ap (pageOut 64 64) (sym (put-laid n (omega arith) (omega arith))) ∙
+      took-full flash (paste p fill x n) (fill + n) (next + n) failed (getD x n 0) (omega arith) (pageOut 64 64 (put (laid n) (getD x n 0))) refl ∙
+      ap (λ (v : Run). took 64 v (getD x n 0)) (part-laid n (omega arith) (omega arith)) ∙
+      sym (one-more n (omega arith)))
+
 -- the loop: what is left of the data gives the same whole
 pub record Pouring (d : List ℕ) (whole : Run) (start size : ℕ) (w : Run) (i : ℕ) : Type 0 where
   pub within : i ≤ length d
@@ -135,18 +200,23 @@ pub record Pouring (d : List ℕ) (whole : Run) (start size : ℕ) (w : Run) (i 
   pub rest : poured 64 w (drop i d) ≡ whole
 
 module _ (d : List ℕ) (whole : Run) (start size : ℕ) (w : Run) (i : ℕ) (v : Pouring d whole start size w i) where
-  pub pour-again : i < length d → (w' : Run) → w' ≡ took 64 w (getD d i 0) → Pouring d whole start size w' (i + 1)
-  unfolding poured
-  pour-again h w' e =
+  pub pour-again : (m : ℕ) → i + m ≤ length d → (w' : Run) → w' ≡ poured 64 w (take m (drop i d)) → Pouring d whole start size w' (i + m)
+  pour-again m h w' e =
+      let x : List ℕ = take m (drop i d) in
+      let t : length x ≡ m = length-take-le m (drop i d) (omega (arith, length-drop i d)) in
       let n : w .next ≡ start + i = v .near in
       rw e
       (record {
-        within = omega arith;
-        stands = took-stands w (getD d i 0) (v .stands);
-        near = rw (took-next w (getD d i 0)) (omega arith);
-        long = rw (took-page w (getD d i 0)) (v .long);
-        kept = rw (took-flash w (getD d i 0)) (v .kept);
-        rest = rw (add-one i) (rw (drop-cons d i 0 h) at (v .rest));
+        within = h;
+        stands = poured-stands x w (v .stands);
+        near = rw (poured-next x w) (omega arith);
+        long = poured-page x w ∙ v .long;
+        kept = poured-flash x w ∙ v .kept;
+        rest =
+            ap (poured 64 (poured 64 w x)) (sym (drop-drop m i d)) ∙
+            sym (poured-append 64 w x (drop m (drop i d))) ∙
+            ap (poured 64 w) (take-append-drop m (drop i d)) ∙
+            v .rest;
       })
 
   pub pour-done : length d ≤ i → w ≡ whole

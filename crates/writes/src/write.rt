@@ -8,13 +8,14 @@ use tinyboot_protocol::WriteFlags;
 use tinyboot_protocol::le;
 ghost use mathlib.Core.Path.{_≡_};
 ghost use mathlib.Core.Bool.{_||_};
-ghost use Prim.Native.Nat.{_^_, _≤_, _<_};
-ghost use lib.ListN.{length};
+ghost use Prim.Native.Nat.{_+_, _^_, _≤_, _<_};
+ghost use lib.ListN.{length, take, drop};
+ghost use lib.Seq.{paste};
 ghost use Rattle.laws.specs.Pick.{pick};
 ghost use Rattle.tinyboot_protocol.specs.Names.{statusNumber};
 ghost use Rattle.flash.specs.Flash.{storedNumber};
 ghost use Rattle.commands.specs.Fields.{dataOf, Ok, WriteError};
-ghost use Rattle.writes.specs.Write.{none, running, fails, pageOut, took, poured, flushed, writeFits, begin, writtenOf, wroteTo, cmdWriteOf};
+ghost use Rattle.writes.specs.Write.{none, running, fails, pageOut, poured, flushed, writeFits, begin, writtenOf, wroteTo, cmdWriteOf};
 
 // No write is pending: the next may start at any page.
 const ANY: u32 = 0xFFFF_FFFF;
@@ -62,17 +63,28 @@ fn page_out(w: Run, n: usize, page: &[u8], flash: &mut [u8]) -> Run
     }
 }
 
-// One byte more.
-fn took(w: Run, b: u8, page: &mut [u8], flash: &mut [u8]) -> Run
-    requires { ⌜ (w .fill < 64) × (w .fill ≤ w .next) × (w .next < 2 ^ 25) × (length (now page) ≡ 64) ⌝ }
-    ensures { λ r. ⌜ running (now (flash .exit)) (now (page .exit)) (r .fill) (r .next) (r .failed) ≡
-        took 64 (running (now (flash .entry)) (now (page .entry)) (w .fill) (w .next) (w .failed)) b ⌝ }
+// m bytes from the i-th on, laid in the page from a place on.
+fn lay(page: &mut [u8], at: usize, d: &[u8], i: usize, m: usize)
+    requires { ⌜ (length (now page) ≡ 64) × (at + m ≤ 64) × (i + m ≤ length (now d)) ⌝ }
+    ensures { λ r. ⌜ now (page .exit) ≡ paste (now (page .entry)) at (drop i (now (d .entry))) m ⌝ }
 {
-    let at = w.fill;
-    page[at] = b;
+    let mut j: usize = 0;
+    while j < m {
+        page[at + j] = d[i + j];
+        j += 1;
+    }
+}
+
+// m bytes more, from the i-th on, for which the page has room.
+fn took(w: Run, d: &[u8], i: usize, m: usize, page: &mut [u8], flash: &mut [u8]) -> Run
+    requires { ⌜ (0 < m) × (w .fill + m ≤ 64) × (i + m ≤ length (now d)) × (w .fill ≤ w .next) × (w .next < 2 ^ 25) × (length (now page) ≡ 64) ⌝ }
+    ensures { λ r. ⌜ running (now (flash .exit)) (now (page .exit)) (r .fill) (r .next) (r .failed) ≡
+        poured 64 (running (now (flash .entry)) (now (page .entry)) (w .fill) (w .next) (w .failed)) (take m (drop i (now (d .entry)))) ⌝ }
+{
+    lay(page, w.fill, d, i, m);
     let more = Run {
-        fill: at + 1,
-        next: w.next + 1,
+        fill: w.fill + m,
+        next: w.next + m as u32,
         failed: w.failed,
     };
     if more.fill == PAGE {
@@ -140,7 +152,18 @@ fn status_of(failed: bool) -> Status
     Status::Ok
 }
 
-// The data, one byte after the other.
+// How many of n bytes fit in what is left of the page.
+fn room(fill: usize, n: usize) -> usize
+    requires { ⌜ (fill < 64) × (0 < n) ⌝ }
+    ensures { λ r. ⌜ (0 < r) × (fill + r ≤ 64) × (r ≤ n) ⌝ }
+{
+    if n <= PAGE - fill {
+        return n;
+    }
+    PAGE - fill
+}
+
+// The data: what the page has room for, and then what is left.
 fn poured(d: &[u8], start: Run, page: &mut [u8], flash: &mut [u8]) -> Run
     requires { ⌜ (length (now d) ≤ 54) × (start .fill < 64) × (start .fill ≤ start .next) × (start .next < 2 ^ 24) × (length (now page) ≡ 64) ⌝ }
     ensures { λ r. ⌜ running (now (flash .exit)) (now (page .exit)) (r .fill) (r .next) (r .failed) ≡
@@ -149,8 +172,9 @@ fn poured(d: &[u8], start: Run, page: &mut [u8], flash: &mut [u8]) -> Run
     let mut w = start;
     let mut i = 0;
     while i < d.len() {
-        w = took(w, d[i], page, flash);
-        i += 1;
+        let m = room(w.fill, d.len() - i);
+        w = took(w, d, i, m, page, flash);
+        i += m;
     }
     w
 }

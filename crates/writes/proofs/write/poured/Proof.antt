@@ -1,9 +1,9 @@
-use native.Mathlib.Omega.{arith}
 use Prim.Native.Nat.{_-_}
 use mathlib.Core.Path.{refl}
 use lib.ListN.{length}
 use Rattle.writes.specs.Write.{running, poured}
 use Rattle.writes.proofs.Writing.{Pouring, pour-again, pour-done}
+use native.Mathlib.Omega.{arith}
 use borrow.Author.Needs.{needs}
 use Rattle.writes.proofs.write.poured.Statement.{statement}
 use Rattle.writes.proofs.write.poured.Tie as tie
@@ -27,30 +27,40 @@ loop-holds c =
       rest = refl;
     }
 
-shared-slice-read-took : tie.Need-shared-slice-read-took Inv-loop μ-loop
-shared-slice-read-took c = c .before .loop-test .taken
+sub-room : tie.Need-sub-room Inv-loop μ-loop
+sub-room c = search needs
+
+room-requires : tie.Need-room-requires Inv-loop μ-loop
+room-requires c κs = (c .before .loop .inv .stands .below, omega (arith, c .loop-test .taken))
 
 took-requires : tie.Need-took-requires Inv-loop μ-loop
 took-requires c κs =
-    let v = c .before .before .before .before .loop .inv in
-    let p = c .before .before .before .before .before .before .before .before .pre in
-    (v .stands .below, v .stands .back, omega (arith, v .near, v .within, p .0, p .3), v .long)
+    let at-room = c .before .before in
+    let at-loop = at-room .before .before in
+    let v = at-loop .loop .inv in
+    let p = at-loop .before .before .before .before .pre in
+    let e = at-room .room .ensures in
+    (e .0, e .1, omega (arith, e .2, at-room .before .loop-test .taken), v .stands .back, omega (arith, v .near, v .within, p .0, p .3), v .long)
 
 add-i : tie.Need-add-i Inv-loop μ-loop
-add-i c = omega (arith, c .before .before .before .before .before .before .before .before .loop-test .taken)
+add-i c =
+    let at-room = c .before .before .before .before .before .before .before in
+    omega (arith, at-room .room .ensures .2, at-room .before .loop-test .taken)
 
 loop-less : tie.Need-loop-less Inv-loop μ-loop
-loop-less c = omega (arith, c .before .before .before .before .before .before .before .before .loop-test .taken)
+loop-less c =
+    let at-room = c .before .before .before .before .before .before .before in
+    omega (arith, at-room .room .ensures .0, at-room .room .ensures .2, at-room .before .loop-test .taken)
 
 loop-again : tie.Need-loop-again Inv-loop μ-loop
 loop-again c =
     let at-took = c .before .before .before .before in
-    let at-loop-test = at-took .before .before .before .before in
-    let at-loop = at-loop-test .before in
-    let at-entry = at-loop .before .before .before .before in
-    let a = at-entry .args in
+    let at-room = at-took .before .before .before in
+    let at-loop = at-room .before .before in
+    let a = at-loop .before .before .before .before .args in
     let l = at-loop .loop in
-    pour-again (a .d .now) _ _ _ (running (l .flash) (l .page) (l .w .fill) (l .w .next) (l .w .failed)) (l .i) (l .inv) (at-loop-test .loop-test .taken) _ (at-took .took .ensures)
+    pour-again (a .d .now) _ _ _ (running (l .flash) (l .page) (l .w .fill) (l .w .next) (l .w .failed)) (l .i) (l .inv) (at-room .room .result)
+    (omega (arith, at-room .room .ensures .2, at-room .before .loop-test .taken)) _ (at-took .took .ensures)
 
 same-length : tie.Need-same-length Inv-loop μ-loop
 same-length c = search needs
@@ -70,7 +80,8 @@ poured-spec =
     Inv-loop
     μ-loop
     loop-holds
-    shared-slice-read-took
+    sub-room
+    room-requires
     took-requires
     add-i
     loop-less
