@@ -43,6 +43,7 @@ startCalled x state answer =
     afterStart (x .answer) (pick (eqb (x .answer) 0) (stateBytes (x .state)) state) (x .meta)
     (over (answerBytes (startTold (x .answer) (x .mode)) 0) answer)
 
+-- a start of a setup by value (tinyboot.h, tinyboot_start), refused or not
 unfoldable pub startIn : ℕ → ℕ → ℕ → Setup → List ℕ → List ℕ → List ℕ → List ℕ → AfterStart
 startIn cap page mode s state flash meta answer =
     pick (eqb (length state) (stateSize cap page))
@@ -59,5 +60,6 @@ pub record AfterNew : Type 0 where
 abbrev pub afterNew : ℕ → List ℕ → AfterNew
 afterNew result state = record { result = result; state = state }
 
+-- an open new state (tinyboot.h, tinyboot_new_state)
 unfoldable pub cNew : ℕ → ℕ → List ℕ → AfterNew
 cNew cap page state = pick (eqb (length state) (stateSize cap page)) (afterNew 0 (stateBytes (newState cap page false))) (afterNew 11 state)

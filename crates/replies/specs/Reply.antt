@@ -29,5 +29,6 @@ saidBy false wait flags len = reply len wait
 abbrev pub spokenBy : Bool → ℕ → ℕ → Sent → Spoken
 spokenBy due wait flags s = spoken (saidBy due wait flags (s .count)) (s .bytes) (s .room)
 
+-- the header laid, the frame sent into the room, and what the call says of it
 unfoldable pub replyOf : ℕ → ℕ → ℕ → Bool → ℕ → List ℕ → List ℕ → Spoken
 replyOf cap status len due wait f room = spokenBy due wait (flagsOf f) (sendOf cap (headed status len f) room)
