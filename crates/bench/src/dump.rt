@@ -1,9 +1,9 @@
 // What `d` shows of the bench.
 use crate::module::Bench;
 use crate::show;
-use flash::cells::first;
-use tinyboot_protocol::crc::CRC_INIT;
-use tinyboot_protocol::crc::crc16;
+use store_flash::cells::first;
+use wire_numbers::crc::CRC_INIT;
+use wire_numbers::crc::crc16;
 
 // The length of what is lent, and its CRC.
 fn summed(out: &mut [u8], at: usize, name: &[u8], s: &[u8]) -> usize {

@@ -3,14 +3,14 @@ use crate::module;
 use crate::module::Bench;
 use crate::show;
 use crate::starting;
-use feed::Passed;
-use feed::feed_in;
-use flash::cells::first;
-use replies::Answer;
-use tinyboot_protocol::RunMode;
+use device_feed::Passed;
+use device_feed::feed_in;
+use device_replies::Answer;
+use store_flash::cells::first;
+use wire_numbers::RunMode;
 ghost use mathlib.Core.Path.{_≡_};
-ghost use Rattle.tinyboot_protocol.specs.Names.{modeNumber};
-ghost use Rattle.replies.specs.Answers.{toldOf};
+ghost use Rattle.wire_numbers.specs.Names.{modeNumber};
+ghost use Rattle.device_replies.specs.Answers.{toldOf};
 
 // What a call says, in numbers.
 struct Said {

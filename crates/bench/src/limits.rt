@@ -1,6 +1,6 @@
 // What a line may carry.
 use crate::numbers;
-use flash::cells::byte_at;
+use store_flash::cells::byte_at;
 ghost use mathlib.Core.Path.{_≡_};
 ghost use Prim.Native.Nat.{_+_, _-_};
 ghost use lib.Dec.{leb};

@@ -2,12 +2,12 @@
 // beside it, so that no call copies them.
 use crate::limits;
 use crate::numbers;
-use device::Setup;
-use device::State;
-use flash::cells::byte_at;
-use flash::cells::lay;
-use starts::start::new_state;
-use tinyboot_protocol::COMPAT_UNSET;
+use device_start::new_state;
+use device_state::Setup;
+use device_state::State;
+use store_flash::cells::byte_at;
+use store_flash::cells::lay;
+use wire_numbers::COMPAT_UNSET;
 ghost use Prim.Native.Nat.{_≤_};
 ghost use Rattle.io.specs.Counts.{Counts};
 

@@ -1,6 +1,6 @@
 // Numbers in the bytes of a line.
-use flash::cells::byte_at;
-use tinyboot_protocol::le;
+use store_flash::cells::byte_at;
+use wire_numbers::le;
 ghost use mathlib.Core.Path.{_≡_};
 ghost use Prim.Native.Nat.{_<_};
 ghost use Rattle.bench.specs.Numbers.{at2, at4};

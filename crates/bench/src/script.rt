@@ -9,9 +9,9 @@ use crate::module::Bench;
 use crate::numbers;
 use crate::show;
 use crate::starting;
-use flash::cells::byte_at;
-use flash::cells::first;
-use flash::cells::lay;
+use store_flash::cells::byte_at;
+use store_flash::cells::first;
+use store_flash::cells::lay;
 ghost use Prim.Native.Nat.{_≤_};
 ghost use lib.ListN.{length};
 

@@ -4,7 +4,7 @@ use libc::STDOUT_FILENO;
 
 // What the buffer holds goes out.
 pub(crate) fn flush(out: &[u8], at: usize) {
-    io::write_all(STDOUT_FILENO, flash::cells::first(out, at));
+    io::write_all(STDOUT_FILENO, store_flash::cells::first(out, at));
 }
 
 pub(crate) fn byte(out: &mut [u8], at: usize, b: u8) -> usize {
@@ -13,7 +13,7 @@ pub(crate) fn byte(out: &mut [u8], at: usize, b: u8) -> usize {
         return at + 1;
     }
     flush(out, at);
-    flash::cells::put(out, 0, b);
+    store_flash::cells::put(out, 0, b);
     1
 }
 

@@ -2,13 +2,13 @@
 use crate::module;
 use crate::module::Bench;
 use crate::show;
-use device::refusal::Refusal;
-use flash::cells::first;
-use starts::start::Started;
-use starts::start::start;
-use tinyboot_protocol::RunMode;
+use device_start::Started;
+use device_start::start;
+use device_state::refusal::Refusal;
+use store_flash::cells::first;
+use wire_numbers::RunMode;
 ghost use mathlib.Core.Path.{_≡_};
-ghost use Rattle.device.specs.Refusals.{refusalNumber};
+ghost use Rattle.device_state.specs.Refusals.{refusalNumber};
 
 // A refusal by its number; 0 for none.
 fn number(refusal: Refusal) -> u64

@@ -8,7 +8,7 @@ use lib.Dec.{ltb}
 use borrow.Author.Tests.{lt-ltb, le-ltb}
 use Rattle.laws.specs.Pick.{pick}
 use Rattle.laws.specs.Over.{over}
-use Rattle.replies.specs.Answers.{Told}
+use Rattle.device_replies.specs.Answers.{Told}
 use Rattle.c_layout.specs.declared.Said.{Said}
 use Rattle.c_layout.specs.Layout.{answerBytes, answered}
 use Rattle.c_layout.specs.Inner.{toldBy}

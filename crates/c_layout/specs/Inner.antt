@@ -1,5 +1,5 @@
 -- What the functions promise each other; an auditor need not read it.
-use Rattle.replies.specs.Answers.{Told}
+use Rattle.device_replies.specs.Answers.{Told}
 use Rattle.c_layout.specs.declared.Said.{Said}
 
 -- the code's numbers of an answer

@@ -8,10 +8,10 @@ use lib.Dec.{eqb, ltb}
 use Rattle.laws.specs.Pick.{pick}
 use Rattle.laws.specs.Low.{lowFirst, lowBytes}
 use Rattle.laws.specs.Over.{over}
-use Rattle.device.specs.declared.Setup.{Setup}
-use Rattle.device.specs.declared.State.{State}
-use Rattle.replies.specs.Answers.{Told}
-use Rattle.device.specs.State.{stateWith}
+use Rattle.device_state.specs.declared.Setup.{Setup}
+use Rattle.device_state.specs.declared.State.{State}
+use Rattle.device_replies.specs.Answers.{Told}
+use Rattle.device_state.specs.State.{stateWith}
 
 -- so many bytes from a place on
 abbrev pub part : ℕ → ℕ → List ℕ → List ℕ

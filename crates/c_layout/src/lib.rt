@@ -1,16 +1,16 @@
 // Where a setup, a state and an answer stand in the bytes that a program in C lends, as far as it needs no more than that. Ours: the Rust has no such
 // interface.
 
-use device::refusal::Refusal;
-use replies::Answer;
-use tinyboot_protocol::RunMode;
+use device_replies::Answer;
+use device_state::refusal::Refusal;
+use wire_numbers::RunMode;
 ghost use mathlib.Core.Path.{_≡_};
 ghost use lib.Dec.{eqb};
 ghost use lib.ListN.{length};
-ghost use Rattle.tinyboot_protocol.specs.Names.{modeNumber};
-ghost use Rattle.device.specs.Refusals.{refusalNumber};
-ghost use Rattle.starts.specs.Starts.{newState};
-ghost use Rattle.replies.specs.Answers.{mute, toldOf};
+ghost use Rattle.wire_numbers.specs.Names.{modeNumber};
+ghost use Rattle.device_state.specs.Refusals.{refusalNumber};
+ghost use Rattle.device_start.specs.Starts.{newState};
+ghost use Rattle.device_replies.specs.Answers.{mute, toldOf};
 ghost use Rattle.c_layout.specs.Layout.{setupSize, holdsState, flagByte, numberBytes, stateBytes, answerBytes, answered};
 ghost use Rattle.c_layout.specs.Inner.{toldBy};
 

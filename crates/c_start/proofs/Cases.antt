@@ -9,12 +9,12 @@ use borrow.Author.Tests.{eq-eqb, ne-eqb, lt-ltb, le-ltb}
 use Rattle.laws.specs.Pick.{pick}
 use Rattle.laws.specs.Over.{over}
 use Rattle.laws.proofs.Pick.{yes, no}
-use Rattle.frames.specs.Stored.{wellOf}
-use Rattle.device.specs.declared.Setup.{Setup}
-use Rattle.device.specs.Refusals.{setUp, runFits, wellFormed, lengthsOf, refusalOf}
-use Rattle.tinyboot_core.specs.Start.{Decision, startOf}
-use Rattle.starts.specs.Starts.{Left, left, decidedTo, newState, startRefusal, startedOf}
-use Rattle.replies.specs.Answers.{mute}
+use Rattle.wire_frames.specs.Stored.{wellOf}
+use Rattle.device_state.specs.declared.Setup.{Setup}
+use Rattle.device_state.specs.Refusals.{setUp, runFits, wellFormed, lengthsOf, refusalOf}
+use Rattle.device_boot.specs.Start.{Decision, startOf}
+use Rattle.device_start.specs.Starts.{Left, left, decidedTo, newState, startRefusal, startedOf}
+use Rattle.device_replies.specs.Answers.{mute}
 use Rattle.c_layout.specs.Layout.{stateBytes, answerBytes}
 use Rattle.c_start.specs.Start as Calls
 use Rattle.c_layout.proofs.Answering.{answer-short}

@@ -7,9 +7,9 @@ use lib.ListN.{length}
 use lib.Dec.{eqb, ltb}
 use Rattle.laws.specs.Pick.{pick}
 use Rattle.laws.specs.Over.{over}
-use Rattle.device.specs.declared.Setup.{Setup}
-use Rattle.starts.specs.Starts.{Left, newState, startRefusal, startedOf}
-use Rattle.replies.specs.Answers.{Told, mute}
+use Rattle.device_state.specs.declared.Setup.{Setup}
+use Rattle.device_start.specs.Starts.{Left, newState, startRefusal, startedOf}
+use Rattle.device_replies.specs.Answers.{Told, mute}
 use Rattle.c_layout.specs.Layout.{stateSize, answerSize, stateBytes, answerBytes, answered}
 
 -- a start: its result, and each buffer after it

@@ -6,19 +6,19 @@ use c_layout::mode_number;
 use c_layout::new_bytes;
 use c_layout::refusal_number;
 use c_layout::refuse;
-use device::Setup;
-use device::refusal::Refusal;
-use device::refusal::refuses;
-use starts::start::start;
-use tinyboot_protocol::RunMode;
+use device_start::start;
+use device_state::Setup;
+use device_state::refusal::Refusal;
+use device_state::refusal::refuses;
+use wire_numbers::RunMode;
 ghost use mathlib.Core.Path.{_≡_};
 ghost use Prim.Native.Nat.{_≤_};
 ghost use lib.ListN.{length};
-ghost use Rattle.tinyboot_protocol.specs.Names.{modeNumber};
+ghost use Rattle.wire_numbers.specs.Names.{modeNumber};
 ghost use Rattle.laws.specs.Over.{over};
-ghost use Rattle.device.specs.Refusals.{refusalNumber};
+ghost use Rattle.device_state.specs.Refusals.{refusalNumber};
 ghost use Rattle.c_layout.specs.Layout.{stateBytes, answerBytes};
-ghost use Rattle.starts.specs.Starts.{newState, startRefusal, startedOf};
+ghost use Rattle.device_start.specs.Starts.{newState, startRefusal, startedOf};
 ghost use Rattle.c_start.specs.Start.{afterNew, cNew, asked, startTold, orNoRoom, afterStart, startCalled, startIn};
 
 // A new state, laid over bytes that are as many as a state's.

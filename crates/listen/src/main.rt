@@ -1,13 +1,12 @@
 // Feeds an unaddressed device what stands on standard input, and prints what each frame was answered: where it ends, and the reply's status or `silent`; at
 // the end, how many bytes of a frame have begun. A restart ends it.
-use device::Setup;
-use device::State;
-use feed::feed;
+use device_feed::feed;
+use device_replies::Answer;
+use device_state::Setup;
+use device_state::State;
 use libc::STDIN_FILENO;
 use libc::STDOUT_FILENO;
-use replies::Answer;
-use starts::start;
-use tinyboot_protocol::COMPAT_UNSET;
+use wire_numbers::COMPAT_UNSET;
 
 // How far the stream has been heard: the device, the bytes in all, how many of them the last call took, and whether the device listens on.
 struct Heard {
@@ -114,7 +113,7 @@ fn some(heard: Heard, flash: &mut [u8; 16384], meta: &mut [u8; 12]) -> Heard {
 // uses up.
 fn all(flash: &mut [u8; 16384], meta: &mut [u8; 12]) -> Heard {
     let mut heard = Heard {
-        state: start::new_state(false),
+        state: device_start::new_state(false),
         bytes: 0,
         taken: 0,
         on: true,

@@ -8,8 +8,8 @@ use lib.Dec.{eqb, ltb}
 use borrow.Author.Tests.{lt-ltb, le-ltb}
 use Rattle.laws.specs.Pick.{pick}
 use Rattle.laws.proofs.Pick.{yes, no}
-use Rattle.replies.specs.Answers.{mute}
-use Rattle.feed.specs.Feed.{fedOf}
+use Rattle.device_replies.specs.Answers.{mute}
+use Rattle.device_feed.specs.Feed.{fedOf}
 use Rattle.c_layout.specs.Layout.{setupFrom, holdsState, stateFrom}
 use Rattle.c_start.specs.Start.{AfterStart, startRefused, startIn}
 use Rattle.tinyboot_c.specs.Calls

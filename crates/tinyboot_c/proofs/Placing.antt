@@ -6,10 +6,10 @@ use native.Mathlib.Omega.{arith}
 use lib.ListN.{length, drop, length-append, length-drop, drop-of-length-le}
 use lib.Seq.{paste}
 use Rattle.laws.specs.Over.{over}
-use Rattle.replies.specs.Answers.{Told, toldOf}
-use Rattle.feed.specs.declared.Passed.{Passed}
-use Rattle.feed.specs.Feed.{Called}
-use Rattle.in_place.specs.On.{restIn, CalledOn, calledOn, onBy}
+use Rattle.device_replies.specs.Answers.{Told, toldOf}
+use Rattle.device_feed.specs.declared.Passed.{Passed}
+use Rattle.device_feed.specs.Feed.{Called}
+use Rattle.device_in_place.specs.On.{restIn, CalledOn, calledOn, onBy}
 use Rattle.c_layout.specs.declared.Said.{Said}
 use Rattle.c_layout.specs.Layout.{numberBytes, partBytes, answerBytes}
 use Rattle.tinyboot_c.specs.Calls

@@ -15,16 +15,17 @@ use Rattle.laws.specs.Over.{over}
 use Rattle.laws.specs.Low.{lowFirst, lowBytes}
 use Rattle.laws.proofs.Low.{low-read, low-write}
 use Rattle.laws.proofs.Bools.{and-both, or-either}
-use Rattle.frames.specs.declared.frame.End.{End}
-use Rattle.frames.specs.declared.frame.End.the-variants.{Going, Over}
-use Rattle.frames.specs.Reading.{lenOf, verdictOf}
-use Rattle.frames.specs.Stored.{goes, wellOf}
-use Rattle.frames.proofs.Reading.{going-size}
-use Rattle.device.specs.declared.State.{State}
-use Rattle.device.specs.Refusals.{runFits, wellFormed}
-use Rattle.replies.specs.Answers.{mute}
-use Rattle.device.specs.State.{stateWith}
-use Rattle.feed.specs.Feed.{Called, refusalFor, refusedBy, takenOf, fedOf}
+use Rattle.wire_frames.specs.declared.frame.End.{End}
+use Rattle.wire_frames.specs.declared.frame.End.the-variants.{Going, Over}
+use Rattle.wire_frames.specs.Fields.{lenOf}
+use Rattle.wire_frames.specs.Reading.{verdictOf}
+use Rattle.wire_frames.specs.Stored.{goes, wellOf}
+use Rattle.wire_frames.proofs.Reading.{going-size}
+use Rattle.device_state.specs.declared.State.{State}
+use Rattle.device_state.specs.Refusals.{runFits, wellFormed}
+use Rattle.device_replies.specs.Answers.{mute}
+use Rattle.device_state.specs.State.{stateWith}
+use Rattle.device_feed.specs.Feed.{Called, refusalFor, refusedBy, takenOf, fedOf}
 use Rattle.c_layout.specs.Layout.{part, setupFrom, holdsState, stateFrom, flagByte, numberBytes, partBytes, stateBytes, answerBytes}
 use Rattle.tinyboot_c.specs.Calls.{afterFeed, feedCalled}
 use Rattle.tinyboot_c.proofs.Copies.{part-four}

@@ -10,14 +10,14 @@ use lib.Seq.{set-at, set-append-left, take-at, drop-at, length-take-le}
 use lib.Dec.{eqb}
 use Rattle.laws.specs.Low.{lowFirst, lowBytes}
 use Rattle.laws.specs.Over.{over}
-use Rattle.device.specs.declared.Setup.{Setup}
-use Rattle.device.specs.declared.State.{State}
-use Rattle.replies.specs.Answers.{Told, mute}
-use Rattle.device.specs.State.{stateWith}
-use Rattle.feed.specs.Feed.{Called, fedOf}
-use Rattle.in_place.specs.On.{stateIn}
-use Rattle.in_place.specs.Byte.{laidTo, byteOn}
-use Rattle.in_place.proofs.Quick.{byte-laid, byte-within, byte-fed}
+use Rattle.device_state.specs.declared.Setup.{Setup}
+use Rattle.device_state.specs.declared.State.{State}
+use Rattle.device_replies.specs.Answers.{Told, mute}
+use Rattle.device_state.specs.State.{stateWith}
+use Rattle.device_feed.specs.Feed.{Called, fedOf}
+use Rattle.device_in_place.specs.On.{stateIn}
+use Rattle.device_in_place.specs.Byte.{laidTo, byteOn}
+use Rattle.device_in_place.proofs.Quick.{byte-laid, byte-within, byte-fed}
 use Rattle.c_layout.specs.Layout.{part, setupFrom, holdsState, stateFrom, flagByte, numberBytes, partBytes, stateBytes, answerBytes}
 use Rattle.tinyboot_c.specs.Calls.{AfterFeed, afterFeed, feedCalled}
 use Rattle.c_layout.specs.Inner.{toldBy}

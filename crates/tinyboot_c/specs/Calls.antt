@@ -7,11 +7,11 @@ use lib.ListN.{length}
 use lib.Dec.{eqb, ltb}
 use Rattle.laws.specs.Pick.{pick}
 use Rattle.laws.specs.Over.{over}
-use Rattle.device.specs.declared.Setup.{Setup}
-use Rattle.device.specs.declared.State.{State}
-use Rattle.device.specs.Refusals.{refusalOf}
-use Rattle.replies.specs.Answers.{mute}
-use Rattle.feed.specs.Feed.{Called, fedOf}
+use Rattle.device_state.specs.declared.Setup.{Setup}
+use Rattle.device_state.specs.declared.State.{State}
+use Rattle.device_state.specs.Refusals.{refusalOf}
+use Rattle.device_replies.specs.Answers.{mute}
+use Rattle.device_feed.specs.Feed.{Called, fedOf}
 use Rattle.c_layout.specs.Layout.{setupSize, answerSize, setupFrom, holdsState, stateFrom, stateBytes, answerBytes, answered}
 use Rattle.c_start.specs.Start.{AfterStart, startRefused, startIn}
 

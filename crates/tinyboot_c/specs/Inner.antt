@@ -7,8 +7,8 @@ use lib.ListN.{length, getD}
 use lib.Dec.{eqb}
 use Rattle.laws.specs.Low.{lowFirst}
 use Rattle.laws.specs.Over.{over}
-use Rattle.replies.specs.Answers.{mute}
-use Rattle.feed.specs.Feed.{fedOf}
+use Rattle.device_replies.specs.Answers.{mute}
+use Rattle.device_feed.specs.Feed.{fedOf}
 use Rattle.tinyboot_c.specs.declared.state.Numbers.{Numbers}
 use Rattle.c_layout.specs.Layout.{part, setupFrom, stateFrom, answerBytes}
 use Rattle.tinyboot_c.specs.Calls.{afterFeed, feedCalled}

@@ -1,6 +1,6 @@
 // What stands in the bytes of a setup, and numbers of several bytes.
-use device::Setup;
-use tinyboot_protocol::le;
+use device_state::Setup;
+use wire_numbers::le;
 ghost use mathlib.Core.Path.{_≡_};
 ghost use Prim.Native.Nat.{_≤_, _+_};
 ghost use lib.ListN.{length};

@@ -1,11 +1,11 @@
 // Runs published vectors over the protocol crate and says which differ.
-use baud::BaudFound;
-use baud::BaudRate;
 use libc::STDOUT_FILENO;
-use tinyboot_protocol::compat_key;
-use tinyboot_protocol::crc::crc16;
-use tinyboot_protocol::pack_version;
-use tinyboot_protocol::unpack_version;
+use wire_numbers::compat_key;
+use wire_numbers::crc::crc16;
+use wire_numbers::pack_version;
+use wire_numbers::unpack_version;
+use wire_rates::BaudFound;
+use wire_rates::BaudRate;
 
 // How many vectors ran, and how many of them differ.
 struct Tally {

@@ -10,19 +10,13 @@ returns : tie.Need-returns
 unfolding holdsState
 returns c = simp (ne-eqb _ _ (c .if1 .taken))
 
-shared-slice-read-if2 : tie.Need-shared-slice-read-if2
-shared-slice-read-if2 c = search needs
-
 returns-2 : tie.Need-returns-2
 unfolding holdsState
 returns-2 c = simp (eq-eqb _ _ (c .before .before .if1 .left), le-ltb _ _ (c .if2 .taken))
-
-shared-slice-read-result : tie.Need-shared-slice-read-result
-shared-slice-read-result c = search needs
 
 returns-3 : tie.Need-returns-3
 returns-3 c = holds-last _ (c .before .before .before .if1 .left) (c .before .if2 .left)
 
 pub holds-state-spec : {M : Type 1} → statement M
 holds-state-spec =
-    tie.close (tie.spec returns shared-slice-read-if2 returns-2 shared-slice-read-result returns-3)
+    tie.close (tie.spec returns (λ c. search needs) returns-2 (λ c. search needs) returns-3)

@@ -14,18 +14,6 @@ use Rattle.c_layout.proofs.lay_answer.Tie as tie
 returns : tie.Need-returns
 returns c = let a = c .before .before .args in (refl, answer-short (toldBy (a .said)) (a .taken) (a .a .now) (c .if1 .taken))
 
-answer-bytes-requires : tie.Need-answer-bytes-requires
-answer-bytes-requires c κs = search needs
-
-slice-aggregate-copy : tie.Need-slice-aggregate-copy
-slice-aggregate-copy c = search needs
-
-copy-requires : tie.Need-copy-requires
-copy-requires c κs = search needs
-
-same-length : tie.Need-same-length
-same-length c = search needs
-
 returns-2 : tie.Need-returns-2
 returns-2 c =
     let a = c .before .before .before .before .before .before .before .before .args in
@@ -40,8 +28,8 @@ lay-answer-spec =
     tie.close
     (tie.spec
     returns
-    answer-bytes-requires
-    slice-aggregate-copy
-    copy-requires
-    same-length
+    (λ c κs. search needs)
+    (λ c. search needs)
+    (λ c κs. search needs)
+    (λ c. search needs)
     returns-2)

@@ -1,19 +1,10 @@
 use mathlib.Core.Path.{ap, _∙_}
-use Rattle.replies.specs.Answers.{mute}
+use Rattle.device_replies.specs.Answers.{mute}
 use Rattle.c_layout.specs.Layout.{answered}
 use Rattle.c_layout.proofs.Answering.{told-by}
 use borrow.Author.Needs.{needs}
 use Rattle.c_layout.proofs.refuse.Statement.{statement}
 use Rattle.c_layout.proofs.refuse.Tie as tie
-
-unsaid-requires : tie.Need-unsaid-requires
-unsaid-requires c κs = search needs
-
-lay-answer-requires : tie.Need-lay-answer-requires
-lay-answer-requires c κs = search needs
-
-same-length : tie.Need-same-length
-same-length c = search needs
 
 returns : tie.Need-returns
 returns c =
@@ -24,4 +15,4 @@ returns c =
     (e .0 ∙ u .0, e .1 ∙ ap (λ v. answered v 0 (a .a .now)) t)
 
 pub refuse-spec : {M : Type 1} → statement M
-refuse-spec = tie.close (tie.spec unsaid-requires lay-answer-requires same-length returns)
+refuse-spec = tie.close (tie.spec (λ c κs. search needs) (λ c κs. search needs) (λ c. search needs) returns)

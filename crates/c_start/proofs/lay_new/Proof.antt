@@ -9,18 +9,6 @@ use borrow.Author.Needs.{needs}
 use Rattle.c_start.proofs.lay_new.Statement.{statement}
 use Rattle.c_start.proofs.lay_new.Tie as tie
 
-new-bytes-requires : tie.Need-new-bytes-requires
-new-bytes-requires c κs = search needs
-
-slice-aggregate-copy : tie.Need-slice-aggregate-copy
-slice-aggregate-copy c = search needs
-
-copy-requires : tie.Need-copy-requires
-copy-requires c κs = search needs
-
-same-length : tie.Need-same-length
-same-length c = search needs
-
 returns : tie.Need-returns
 returns c =
     let a : List ℕ = c .before .before .before .before .before .before .before .args .s .now in
@@ -31,4 +19,4 @@ returns c =
 
 pub lay-new-spec : {M : Type 1} → statement M
 lay-new-spec =
-    tie.close (tie.spec new-bytes-requires slice-aggregate-copy copy-requires same-length returns)
+    tie.close (tie.spec (λ c κs. search needs) (λ c. search needs) (λ c κs. search needs) (λ c. search needs) returns)

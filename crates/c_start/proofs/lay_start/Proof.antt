@@ -6,18 +6,6 @@ use borrow.Author.Needs.{needs}
 use Rattle.c_start.proofs.lay_start.Statement.{statement}
 use Rattle.c_start.proofs.lay_start.Tie as tie
 
-refusal-number-requires : tie.Need-refusal-number-requires
-refusal-number-requires c κs = search needs
-
-mode-number-requires : tie.Need-mode-number-requires
-mode-number-requires c κs = search needs
-
-lay-answer-requires : tie.Need-lay-answer-requires
-lay-answer-requires c κs = search needs
-
-same-length : tie.Need-same-length
-same-length c = search needs
-
 returns : tie.Need-returns
 returns c =
     let e = c .before .before .lay-answer .ensures in
@@ -27,4 +15,4 @@ returns c =
 pub lay-start-spec : {M : Type 1} → statement M
 lay-start-spec =
     tie.close
-    (tie.spec refusal-number-requires mode-number-requires lay-answer-requires same-length returns)
+    (tie.spec (λ c κs. search needs) (λ c κs. search needs) (λ c κs. search needs) (λ c. search needs) returns)

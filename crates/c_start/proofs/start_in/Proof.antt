@@ -3,12 +3,6 @@ use borrow.Author.Needs.{needs}
 use Rattle.c_start.proofs.start_in.Statement.{statement}
 use Rattle.c_start.proofs.start_in.Tie as tie
 
-refuse-requires : tie.Need-refuse-requires
-refuse-requires c κs = search needs
-
-same-length : tie.Need-same-length
-same-length c = search needs
-
 returns : tie.Need-returns
 returns c =
     let at-if1 = c .before .before .before .before in
@@ -17,25 +11,10 @@ returns c =
     let e = c .before .before .refuse .ensures in
     rw (e .0, e .1) (start-no-state (a .mode) (a .setup) (a .state .now) (a .flash .now) (a .meta .now) (a .answer .now) (at-if1 .if1 .taken))
 
-unanswered-requires : tie.Need-unanswered-requires
-unanswered-requires c κs = search needs
-
 returns-2 : tie.Need-returns-2
 returns-2 c =
     let a = c .before .before .before .before .before .before .before .args in
     start-short (a .mode) (a .setup) (a .state .now) (a .flash .now) (a .meta .now) (a .answer .now) (c .before .before .if1 .left) (c .before .if2 .taken) _ (c .unanswered .ensures)
-
-started-requires : tie.Need-started-requires
-started-requires c κs = search needs
-
-same-length-2 : tie.Need-same-length-2
-same-length-2 c = search needs
-
-same-length-3 : tie.Need-same-length-3
-same-length-3 c = search needs
-
-same-length-4 : tie.Need-same-length-4
-same-length-4 c = search needs
 
 returns-3 : tie.Need-returns-3
 returns-3 c =
@@ -48,13 +27,13 @@ pub start-in-spec : {M : Type 1} → statement M
 start-in-spec =
     tie.close
     (tie.spec
-    refuse-requires
-    same-length
+    (λ c κs. search needs)
+    (λ c. search needs)
     returns
-    unanswered-requires
+    (λ c κs. search needs)
     returns-2
-    started-requires
-    same-length-2
-    same-length-3
-    same-length-4
+    (λ c κs. search needs)
+    (λ c. search needs)
+    (λ c. search needs)
+    (λ c. search needs)
     returns-3)

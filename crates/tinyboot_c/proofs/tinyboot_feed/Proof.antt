@@ -7,15 +7,6 @@ use borrow.Author.Needs.{needs}
 use Rattle.tinyboot_c.proofs.tinyboot_feed.Statement.{statement}
 use Rattle.tinyboot_c.proofs.tinyboot_feed.Tie as tie
 
-holds-setup-requires : tie.Need-holds-setup-requires
-holds-setup-requires c κs = search needs
-
-refuse-requires : tie.Need-refuse-requires
-refuse-requires c κs = search needs
-
-same-length : tie.Need-same-length
-same-length c = search needs
-
 returns : tie.Need-returns
 returns c =
     let at-if1 = c .before .before .before .before in
@@ -24,9 +15,6 @@ returns c =
     let a = at-entry .args in
     let e = c .before .before .refuse .ensures in
     rw (e .0, e .1) (feed-no-setup (a .setup .now) (a .state .now) (a .bytes .now) (a .flash .now) (a .meta .now) (a .reply .now) (a .answer .now) (sym (at-holds-setup .holds-setup .ensures) ∙ not-true _ (at-if1 .if1 .taken)))
-
-holds-state-requires : tie.Need-holds-state-requires
-holds-state-requires c κs = search needs
 
 setup-from-requires : tie.Need-setup-from-requires
 setup-from-requires c κs =
@@ -37,9 +25,6 @@ unanswered-requires c κs =
     let at-holds-state = c .before .before .before .before in
     let at-entry = at-holds-state .before .before .before .before .before .before .before .before .before .before .before in
     holds-size (at-entry .args .state .now) (sym (at-holds-state .holds-state .ensures) ∙ c .before .before .before .if2 .taken)
-
-same-length-2 : tie.Need-same-length-2
-same-length-2 c = search needs
 
 returns-2 : tie.Need-returns-2
 returns-2 c =
@@ -60,21 +45,6 @@ fed-requires c κs =
     let at-holds-setup = at-if1 .before in
     (eqb-true _ 31 (sym (at-holds-setup .holds-setup .ensures) ∙ not-false _ (at-if1 .if1 .left)), ((sym (at-holds-state .holds-state .ensures) ∙ at-if2 .if2 .taken), at-if3 .if3 .left))
 
-same-length-3 : tie.Need-same-length-3
-same-length-3 c = search needs
-
-same-length-4 : tie.Need-same-length-4
-same-length-4 c = search needs
-
-same-length-5 : tie.Need-same-length-5
-same-length-5 c = search needs
-
-same-length-6 : tie.Need-same-length-6
-same-length-6 c = search needs
-
-same-length-7 : tie.Need-same-length-7
-same-length-7 c = search needs
-
 returns-3 : tie.Need-returns-3
 returns-3 c =
     let at-fed = c .before .before .before .before .before .before .before .before .before .before in
@@ -86,15 +56,6 @@ returns-3 c =
     let at-entry = at-holds-setup .before .before .before .before .before .before .before .before in
     let a = at-entry .args in
     feed-called (a .setup .now) (a .state .now) (a .bytes .now) (a .flash .now) (a .meta .now) (a .reply .now) (a .answer .now) (sym (at-holds-setup .holds-setup .ensures) ∙ not-false _ (at-if1 .if1 .left)) (sym (at-holds-state .holds-state .ensures) ∙ at-if2 .if2 .taken) (at-if3 .if3 .left) _ (at-fed .fed .ensures)
-
-refuse-requires-2 : tie.Need-refuse-requires-2
-refuse-requires-2 c κs = search needs
-
-same-length-8 : tie.Need-same-length-8
-same-length-8 c = search needs
-
-same-length-9 : tie.Need-same-length-9
-same-length-9 c = search needs
 
 returns-4 : tie.Need-returns-4
 returns-4 c =
@@ -111,23 +72,23 @@ pub tinyboot-feed-spec : {M : Type 1} → statement M
 tinyboot-feed-spec =
     tie.close
     (tie.spec
-    holds-setup-requires
-    refuse-requires
-    same-length
+    (λ c κs. search needs)
+    (λ c κs. search needs)
+    (λ c. search needs)
     returns
-    holds-state-requires
+    (λ c κs. search needs)
     setup-from-requires
     unanswered-requires
-    same-length-2
+    (λ c. search needs)
     returns-2
     fed-requires
-    same-length-3
-    same-length-4
-    same-length-5
-    same-length-6
-    same-length-7
+    (λ c. search needs)
+    (λ c. search needs)
+    (λ c. search needs)
+    (λ c. search needs)
+    (λ c. search needs)
     returns-3
-    refuse-requires-2
-    same-length-8
-    same-length-9
+    (λ c κs. search needs)
+    (λ c. search needs)
+    (λ c. search needs)
     returns-4)

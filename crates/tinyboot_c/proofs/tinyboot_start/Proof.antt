@@ -5,15 +5,6 @@ use borrow.Author.Needs.{needs}
 use Rattle.tinyboot_c.proofs.tinyboot_start.Statement.{statement}
 use Rattle.tinyboot_c.proofs.tinyboot_start.Tie as tie
 
-holds-setup-requires : tie.Need-holds-setup-requires
-holds-setup-requires c κs = search needs
-
-refuse-requires : tie.Need-refuse-requires
-refuse-requires c κs = search needs
-
-same-length : tie.Need-same-length
-same-length c = search needs
-
 returns : tie.Need-returns
 returns c =
     let s = c .before .before .before .before in
@@ -24,18 +15,6 @@ returns c =
 setup-from-requires : tie.Need-setup-from-requires
 setup-from-requires c κs =
     eqb-true _ 31 (sym (c .before .holds-setup .ensures) ∙ not-false _ (c .if1 .left))
-
-start-in-requires : tie.Need-start-in-requires
-start-in-requires c κs = search needs
-
-same-length-2 : tie.Need-same-length-2
-same-length-2 c = search needs
-
-same-length-3 : tie.Need-same-length-3
-same-length-3 c = search needs
-
-same-length-4 : tie.Need-same-length-4
-same-length-4 c = search needs
 
 returns-2 : tie.Need-returns-2
 returns-2 c =
@@ -50,13 +29,13 @@ pub tinyboot-start-spec : {M : Type 1} → statement M
 tinyboot-start-spec =
     tie.close
     (tie.spec
-    holds-setup-requires
-    refuse-requires
-    same-length
+    (λ c κs. search needs)
+    (λ c κs. search needs)
+    (λ c. search needs)
     returns
     setup-from-requires
-    start-in-requires
-    same-length-2
-    same-length-3
-    same-length-4
+    (λ c κs. search needs)
+    (λ c. search needs)
+    (λ c. search needs)
+    (λ c. search needs)
     returns-2)

@@ -5,12 +5,6 @@ use native.Mathlib.Omega.{arith}
 use Rattle.bench.proofs.digits.value.Statement.{statement}
 use Rattle.bench.proofs.digits.value.Tie as tie
 
-add-result : tie.Need-add-result
-add-result c = search needs
-
-add-result-2 : tie.Need-add-result-2
-add-result-2 c = search needs
-
 returns : tie.Need-returns
 returns c =
     let x = c .before .before .args .c in
@@ -54,8 +48,8 @@ pub value-spec : {M : Type 1} → statement M
 value-spec =
     tie.close
     (tie.spec
-    add-result
-    add-result-2
+    (λ c. search needs)
+    (λ c. search needs)
     returns
     returns-2
     returns-3

@@ -5,92 +5,53 @@ use Rattle.bench.specs.Limits.{carried}
 use Rattle.bench.proofs.limits.carries.Statement.{statement}
 use Rattle.bench.proofs.limits.carries.Tie as tie
 
-is-between-requires : tie.Need-is-between-requires
-is-between-requires c κs = search needs
-
 returns : tie.Need-returns
 unfolding carried
 returns c = rw (c .before .match .keys1) (c .is-between .ensures)
-
-is-between-requires-2 : tie.Need-is-between-requires-2
-is-between-requires-2 c κs = search needs
 
 returns-2 : tie.Need-returns-2
 unfolding carried
 returns-2 c = rw (c .before .match .keys2) (c .is-between2 .ensures)
 
-is-between-requires-3 : tie.Need-is-between-requires-3
-is-between-requires-3 c κs = search needs
-
 returns-3 : tie.Need-returns-3
 unfolding carried
 returns-3 c = rw (c .before .match .keys3) (c .is-between3 .ensures)
-
-is-between-requires-4 : tie.Need-is-between-requires-4
-is-between-requires-4 c κs = search needs
 
 returns-4 : tie.Need-returns-4
 unfolding carried
 returns-4 c = rw (c .before .match .keys4) (c .is-between4 .ensures)
 
-is-between-requires-5 : tie.Need-is-between-requires-5
-is-between-requires-5 c κs = search needs
-
 returns-5 : tie.Need-returns-5
 unfolding carried
 returns-5 c = rw (c .before .match .keys5) (c .is-between5 .ensures)
-
-is-between-requires-6 : tie.Need-is-between-requires-6
-is-between-requires-6 c κs = search needs
 
 returns-6 : tie.Need-returns-6
 unfolding carried
 returns-6 c = rw (c .before .match .keys6) (c .is-between6 .ensures)
 
-is-between-requires-7 : tie.Need-is-between-requires-7
-is-between-requires-7 c κs = search needs
-
 returns-7 : tie.Need-returns-7
 unfolding carried
 returns-7 c = rw (c .before .match .keys7) (c .is-between7 .ensures)
-
-is-between-requires-8 : tie.Need-is-between-requires-8
-is-between-requires-8 c κs = search needs
 
 returns-8 : tie.Need-returns-8
 unfolding carried
 returns-8 c = rw (c .before .match .keys8) (c .is-between8 .ensures)
 
-is-between-requires-9 : tie.Need-is-between-requires-9
-is-between-requires-9 c κs = search needs
-
 returns-9 : tie.Need-returns-9
 unfolding carried
 returns-9 c = rw (c .before .match .keys9) (c .is-between9 .ensures)
-
-is-between-requires-10 : tie.Need-is-between-requires-10
-is-between-requires-10 c κs = search needs
 
 returns-10 : tie.Need-returns-10
 unfolding carried
 returns-10 c = rw (c .before .match .keys10) (c .is-between10 .ensures)
 
-is-between-requires-11 : tie.Need-is-between-requires-11
-is-between-requires-11 c κs = search needs
-
 returns-11 : tie.Need-returns-11
 unfolding carried
 returns-11 c = rw (c .before .match .keys11) (c .is-between11 .ensures)
 
-is-between-requires-12 : tie.Need-is-between-requires-12
-is-between-requires-12 c κs = search needs
-
 returns-12 : tie.Need-returns-12
 unfolding carried
 returns-12 c = rw (c .before .match .keys12) (c .is-between12 .ensures)
-
-is-between-requires-13 : tie.Need-is-between-requires-13
-is-between-requires-13 c κs = search needs
 
 returns-13 : tie.Need-returns-13
 unfolding carried
@@ -119,19 +80,19 @@ pub carries-spec : {M : Type 1} → statement M
 carries-spec =
     tie.close
     (tie.spec
-    is-between-requires
-    is-between-requires-2
-    is-between-requires-3
-    is-between-requires-4
-    is-between-requires-5
-    is-between-requires-6
-    is-between-requires-7
-    is-between-requires-8
-    is-between-requires-9
-    is-between-requires-10
-    is-between-requires-11
-    is-between-requires-12
-    is-between-requires-13
+    (λ c κs. search needs)
+    (λ c κs. search needs)
+    (λ c κs. search needs)
+    (λ c κs. search needs)
+    (λ c κs. search needs)
+    (λ c κs. search needs)
+    (λ c κs. search needs)
+    (λ c κs. search needs)
+    (λ c κs. search needs)
+    (λ c κs. search needs)
+    (λ c κs. search needs)
+    (λ c κs. search needs)
+    (λ c κs. search needs)
     returns
     returns-2
     returns-3

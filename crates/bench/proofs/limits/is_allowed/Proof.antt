@@ -2,12 +2,6 @@ use borrow.Author.Needs.{needs}
 use Rattle.bench.proofs.limits.is_allowed.Statement.{statement}
 use Rattle.bench.proofs.limits.is_allowed.Tie as tie
 
-carries-requires : tie.Need-carries-requires
-carries-requires c κs = search needs
-
-is-within-requires : tie.Need-is-within-requires
-is-within-requires c κs = search needs
-
 returns : tie.Need-returns
 returns c = rw (← c .before .before .carries .ensures, c .before .if1 .taken) (c .is-within .ensures)
 
@@ -15,4 +9,4 @@ returns-2 : tie.Need-returns-2
 returns-2 c = rw (← c .before .carries .ensures, c .if1 .left)
 
 pub is-allowed-spec : {M : Type 1} → statement M
-is-allowed-spec = tie.close (tie.spec carries-requires is-within-requires returns returns-2)
+is-allowed-spec = tie.close (tie.spec (λ c κs. search needs) (λ c κs. search needs) returns returns-2)

@@ -5,60 +5,6 @@ use borrow.Author.Needs.{needs}
 use Rattle.bench.proofs.limits.is_within.Statement.{statement}
 use Rattle.bench.proofs.limits.is_within.Tie as tie
 
-four-requires : tie.Need-four-requires
-four-requires c κs = search needs
-
-cast-result : tie.Need-cast-result
-cast-result c = search needs
-
-byte-at-requires : tie.Need-byte-at-requires
-byte-at-requires c κs = search needs
-
-cast-result-2 : tie.Need-cast-result-2
-cast-result-2 c = search needs
-
-two-requires : tie.Need-two-requires
-two-requires c κs = search needs
-
-cast-result-3 : tie.Need-cast-result-3
-cast-result-3 c = search needs
-
-four-requires-2 : tie.Need-four-requires-2
-four-requires-2 c κs = search needs
-
-cast-has-room : tie.Need-cast-has-room
-cast-has-room c = search needs
-
-past-requires : tie.Need-past-requires
-past-requires c κs = search needs
-
-has-room-requires : tie.Need-has-room-requires
-has-room-requires c κs = search needs
-
-byte-at-requires-2 : tie.Need-byte-at-requires-2
-byte-at-requires-2 c κs = search needs
-
-four-requires-3 : tie.Need-four-requires-3
-four-requires-3 c κs = search needs
-
-is-settable-requires : tie.Need-is-settable-requires
-is-settable-requires c κs = search needs
-
-byte-at-requires-3 : tie.Need-byte-at-requires-3
-byte-at-requires-3 c κs = search needs
-
-cast-has-room-2 : tie.Need-cast-has-room-2
-cast-has-room-2 c = search needs
-
-past-requires-2 : tie.Need-past-requires-2
-past-requires-2 c κs = search needs
-
-has-room-requires-2 : tie.Need-has-room-requires-2
-has-room-requires-2 c κs = search needs
-
-byte-at-requires-4 : tie.Need-byte-at-requires-4
-byte-at-requires-4 c κs = search needs
-
 returns : tie.Need-returns
 unfolding within
 returns c = rw (c .before .match .keys1, c .four .ensures)
@@ -104,24 +50,24 @@ pub is-within-spec : {M : Type 1} → statement M
 is-within-spec =
     tie.close
     (tie.spec
-    four-requires
-    cast-result
-    byte-at-requires
-    cast-result-2
-    two-requires
-    cast-result-3
-    four-requires-2
-    cast-has-room
-    past-requires
-    has-room-requires
-    byte-at-requires-2
-    four-requires-3
-    is-settable-requires
-    byte-at-requires-3
-    cast-has-room-2
-    past-requires-2
-    has-room-requires-2
-    byte-at-requires-4
+    (λ c κs. search needs)
+    (λ c. search needs)
+    (λ c κs. search needs)
+    (λ c. search needs)
+    (λ c κs. search needs)
+    (λ c. search needs)
+    (λ c κs. search needs)
+    (λ c. search needs)
+    (λ c κs. search needs)
+    (λ c κs. search needs)
+    (λ c κs. search needs)
+    (λ c κs. search needs)
+    (λ c κs. search needs)
+    (λ c κs. search needs)
+    (λ c. search needs)
+    (λ c κs. search needs)
+    (λ c κs. search needs)
+    (λ c κs. search needs)
     returns
     returns-2
     returns-3

@@ -4,11 +4,8 @@ use borrow.Author.Needs.{needs}
 use Rattle.bench.proofs.module.lent.Statement.{statement}
 use Rattle.bench.proofs.module.lent.Tie as tie
 
-least-requires : tie.Need-least-requires
-least-requires c κs = search needs
-
 returns : tie.Need-returns
 returns c = (c .least .ensures, sym (length-take-le _ _ (c .least .ensures)))
 
 pub lent-spec : {M : Type 1} → statement M
-lent-spec = tie.close (tie.spec least-requires returns)
+lent-spec = tie.close (tie.spec (λ c κs. search needs) returns)

@@ -1,12 +1,12 @@
 use mathlib.Core.List.{List}
 use Prim.Native.Nat.{ℕ}
-use Rattle.device.specs.declared.Setup.{Setup}
-use Rattle.feed.specs.Feed.{fedOf}
+use Rattle.device_state.specs.declared.Setup.{Setup}
+use Rattle.device_feed.specs.Feed.{fedOf}
 use Rattle.c_layout.specs.Layout.{setupFrom, stateFrom}
 use Rattle.tinyboot_c.specs.Calls.{AfterFeed, feedCalled}
 use mathlib.Core.Path.{_≡_, refl, ap, sym, _∙_}
 use lib.ListN.{length}
-use Rattle.replies.specs.Answers.{mute}
+use Rattle.device_replies.specs.Answers.{mute}
 use Rattle.c_layout.specs.Inner.{toldBy}
 use Rattle.c_layout.proofs.Answering.{told-by, answer-laid}
 use Rattle.c_layout.proofs.Holding.{holds-size}
@@ -15,21 +15,6 @@ use native.Mathlib.Omega.{arith}
 use borrow.Author.Needs.{needs}
 use Rattle.tinyboot_c.proofs.feeding.fed.Statement.{statement}
 use Rattle.tinyboot_c.proofs.feeding.fed.Tie as tie
-
-fed-byte-requires : tie.Need-fed-byte-requires
-fed-byte-requires c κs = search needs
-
-unsaid-requires : tie.Need-unsaid-requires
-unsaid-requires c κs = search needs
-
-lay-answer-requires : tie.Need-lay-answer-requires
-lay-answer-requires c κs = search needs
-
-same-length : tie.Need-same-length
-same-length c = search needs
-
-same-length-2 : tie.Need-same-length-2
-same-length-2 c = search needs
 
 returns : tie.Need-returns
 returns c =
@@ -43,9 +28,6 @@ returns c =
     byte-answered (c .before .before .before .unsaid .result) (told-by (c .before .before .before .unsaid .result) (mute 0) (u .0) (u .1) (u .2) (u .3)) _ (v .0) _ (a .flash .now) (a .meta .now) (a .reply .now) (a .answer .now) _ (v .1 ∙ sym (answer-laid (toldBy (c .before .before .before .unsaid .result)) 1 (a .answer .now) (at-entry .pre .1 .1))) _
     (e (a .flash .now) (a .meta .now) (a .reply .now) (a .answer .now) refl refl refl)
 
-setup-from-requires : tie.Need-setup-from-requires
-setup-from-requires c κs = search needs
-
 fed-piece-requires : tie.Need-fed-piece-requires
 fed-piece-requires c κs =
     let at-if1 = c .before .before .before .before .before .before in
@@ -54,21 +36,6 @@ fed-piece-requires c κs =
     let e = rw (at-if1 .if1 .left) at (at-fed-byte .fed-byte .ensures) in
     let l : length (at-entry .args .state .now) ≡ 136 = holds-size (at-entry .args .state .now) (at-entry .pre .1 .0) in
     (ap length e ∙ l, at-entry .pre .1 .1)
-
-same-length-3 : tie.Need-same-length-3
-same-length-3 c = search needs
-
-same-length-4 : tie.Need-same-length-4
-same-length-4 c = search needs
-
-same-length-5 : tie.Need-same-length-5
-same-length-5 c = search needs
-
-same-length-6 : tie.Need-same-length-6
-same-length-6 c = search needs
-
-same-length-7 : tie.Need-same-length-7
-same-length-7 c = search needs
 
 returns-2 : tie.Need-returns-2
 returns-2 c =
@@ -88,17 +55,17 @@ pub fed-spec : {M : Type 1} → statement M
 fed-spec =
     tie.close
     (tie.spec
-    fed-byte-requires
-    unsaid-requires
-    lay-answer-requires
-    same-length
-    same-length-2
+    (λ c κs. search needs)
+    (λ c κs. search needs)
+    (λ c κs. search needs)
+    (λ c. search needs)
+    (λ c. search needs)
     returns
-    setup-from-requires
+    (λ c κs. search needs)
     fed-piece-requires
-    same-length-3
-    same-length-4
-    same-length-5
-    same-length-6
-    same-length-7
+    (λ c. search needs)
+    (λ c. search needs)
+    (λ c. search needs)
+    (λ c. search needs)
+    (λ c. search needs)
     returns-2)

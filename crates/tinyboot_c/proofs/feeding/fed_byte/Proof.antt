@@ -2,7 +2,7 @@ use Prim.Native.Nat.{ℕ, _<_}
 use mathlib.Core.Path.{_≡_, refl}
 use mathlib.Core.Bool.{Bool, true, false}
 use lib.ListN.{length, getD}
-use Rattle.in_place.proofs.Quick.{byte-kept}
+use Rattle.device_in_place.proofs.Quick.{byte-kept}
 use Rattle.c_layout.proofs.Holding.{holds-size}
 use Rattle.tinyboot_c.proofs.Single.{OnByte, byte-known, within, after-size, piece-stored}
 use native.Mathlib.Omega.{arith}
@@ -10,35 +10,8 @@ use borrow.Author.Needs.{needs}
 use Rattle.tinyboot_c.proofs.feeding.fed_byte.Statement.{statement}
 use Rattle.tinyboot_c.proofs.feeding.fed_byte.Tie as tie
 
-returns : tie.Need-returns
-returns c = search needs
-
 numbers-from-requires : tie.Need-numbers-from-requires
 numbers-from-requires c κs = holds-size (c .before .before .before .before .before .args .state .now) (c .before .before .before .before .before .pre .1)
-
-four-requires : tie.Need-four-requires
-four-requires c κs = search needs
-
-cast-erase : tie.Need-cast-erase
-cast-erase c = search needs
-
-four-requires-2 : tie.Need-four-requires-2
-four-requires-2 c κs = search needs
-
-cast-capacity : tie.Need-cast-capacity
-cast-capacity c = search needs
-
-shared-slice-read-wide : tie.Need-shared-slice-read-wide
-shared-slice-read-wide c = search needs
-
-wide-requires : tie.Need-wide-requires
-wide-requires c κs = search needs
-
-shared-slice-read-byte-on : tie.Need-shared-slice-read-byte-on
-shared-slice-read-byte-on c = search needs
-
-byte-on-requires : tie.Need-byte-on-requires
-byte-on-requires c κs = search needs
 
 -- what the call of `byte_on` gave, by what stands in the setup's and the state's bytes
 known : (c : tie.After-byte-on) → let a = c .before .before .before .before .before .before .before .before .before .before .before .before .before .args in (t : Bool) → c .byte-on .result ≡ t →
@@ -74,9 +47,6 @@ slice-write-state c =
     let a = d .before .before .before .before .before .before .before .before .before .before .before .before .before .args in
     omega (arith, after-size (a .setup .now) (a .state .now) (d .before .before .before .before .before .before .before .before .before .before .before .before .before .pre .1) (byte d) (getD (a .bytes .now) 0 0) (a .flash) (a .meta) (a .room) _ (known d true (c .before .if2 .taken)))
 
-same-length : tie.Need-same-length
-same-length c = search needs
-
 returns-2 : tie.Need-returns-2
 returns-2 c =
     let d = c .before .before .before .before in
@@ -84,9 +54,6 @@ returns-2 c =
     rw (d .before .before .before .before .before .before .before .numbers-from .ensures)
     (piece-stored (a .setup .now) (a .state .now) (d .before .before .before .before .before .before .before .before .before .before .before .before .before .pre .1) (byte d) (getD (a .bytes .now) 0 0) (a .flash) (a .meta) (a .room) _ (known d true (c .before .if2 .taken)) (a .bytes .now)
     (d .before .before .before .before .before .before .before .before .before .if1 .left) refl)
-
-same-length-2 : tie.Need-same-length-2
-same-length-2 c = search needs
 
 returns-3 : tie.Need-returns-3
 returns-3 c =
@@ -98,20 +65,20 @@ pub fed-byte-spec : {M : Type 1} → statement M
 fed-byte-spec =
     tie.close
     (tie.spec
-    returns
+    (λ c. search needs)
     numbers-from-requires
-    four-requires
-    cast-erase
-    four-requires-2
-    cast-capacity
-    shared-slice-read-wide
-    wide-requires
-    shared-slice-read-byte-on
-    byte-on-requires
+    (λ c κs. search needs)
+    (λ c. search needs)
+    (λ c κs. search needs)
+    (λ c. search needs)
+    (λ c. search needs)
+    (λ c κs. search needs)
+    (λ c. search needs)
+    (λ c κs. search needs)
     add-state
     cast-state
     slice-write-state
-    same-length
+    (λ c. search needs)
     returns-2
-    same-length-2
+    (λ c. search needs)
     returns-3)

@@ -2,9 +2,9 @@ use Prim.Native.Nat.{_≤_}
 use mathlib.Core.Path.{_≡_, sym, _∙_}
 use native.Mathlib.Omega.{arith}
 use lib.ListN.{length}
-use Rattle.replies.specs.Answers.{toldOf}
-use Rattle.in_place.proofs.Placed.{on-long}
-use Rattle.feed.specs.Feed.{Called, fedOf}
+use Rattle.device_replies.specs.Answers.{toldOf}
+use Rattle.device_in_place.proofs.Placed.{on-long}
+use Rattle.device_feed.specs.Feed.{Called, fedOf}
 use Rattle.c_layout.specs.Layout.{stateFrom}
 use Rattle.c_layout.proofs.Answering.{told-by, answer-laid}
 use Rattle.tinyboot_c.proofs.Placing.{fed-placed}
@@ -12,35 +12,8 @@ use borrow.Author.Needs.{needs}
 use Rattle.tinyboot_c.proofs.feeding.fed_piece.Statement.{statement}
 use Rattle.tinyboot_c.proofs.feeding.fed_piece.Tie as tie
 
-numbers-from-requires : tie.Need-numbers-from-requires
-numbers-from-requires c κs = search needs
-
-feed-on-requires : tie.Need-feed-on-requires
-feed-on-requires c κs = search needs
-
 lay-numbers-requires : tie.Need-lay-numbers-requires
 lay-numbers-requires c κs = search needs
-
-numbers-of-requires : tie.Need-numbers-of-requires
-numbers-of-requires c κs = search needs
-
-lay-answer-requires : tie.Need-lay-answer-requires
-lay-answer-requires c κs = search needs
-
-same-length : tie.Need-same-length
-same-length c = search needs
-
-same-length-2 : tie.Need-same-length-2
-same-length-2 c = search needs
-
-same-length-3 : tie.Need-same-length-3
-same-length-3 c = search needs
-
-same-length-4 : tie.Need-same-length-4
-same-length-4 c = search needs
-
-same-length-5 : tie.Need-same-length-5
-same-length-5 c = search needs
 
 returns : tie.Need-returns
 returns c =
@@ -65,14 +38,14 @@ pub fed-piece-spec : {M : Type 1} → statement M
 fed-piece-spec =
     tie.close
     (tie.spec
-    numbers-from-requires
-    feed-on-requires
+    (λ c κs. search needs)
+    (λ c κs. search needs)
     lay-numbers-requires
-    numbers-of-requires
-    lay-answer-requires
-    same-length
-    same-length-2
-    same-length-3
-    same-length-4
-    same-length-5
+    (λ c κs. search needs)
+    (λ c κs. search needs)
+    (λ c. search needs)
+    (λ c. search needs)
+    (λ c. search needs)
+    (λ c. search needs)
+    (λ c. search needs)
     returns)

@@ -1,4 +1,4 @@
-use Rattle.in_place.proofs.Copies.{fetched, fetched-all}
+use Rattle.device_in_place.proofs.Copies.{fetched, fetched-all}
 use lib.Seq.{paste}
 use lib.ListN.{length, drop, replicate, length-set}
 use mathlib.Core.Path.{_≡_, refl, _∙_}

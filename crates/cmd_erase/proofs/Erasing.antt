@@ -1,0 +1,218 @@
+-- An Erase, case by case; and what it keeps.
+use Prim.Native.Nat.{ℕ, _+_, _-_, _%_, _≤_, _<_}
+use mathlib.Core.Path.{_≡_, refl, sym, _∙_}
+use mathlib.Core.List.{List}
+use mathlib.Core.Bool.{Bool, true, false, not, _&&_, _||_}
+use native.Mathlib.Nat.{dvd-trans, dvd-add, mod-eq-zero-of-dvd, dvd-of-mod-eq-zero}
+use native.Mathlib.Omega.{arith}
+use lib.ListN.{length}
+use lib.Dec.{leb, ltb, eqb}
+use borrow.Author.Tests.{lt-ltb, le-ltb, ltb-true, leb-true, leb-false, eq-eqb, ne-eqb, eqb-true, eqb-false, not-true, not-false}
+use Rattle.laws.specs.Pick.{pick}
+use Rattle.laws.proofs.Bools.{and-both}
+use Rattle.store_flash.specs.declared.storage.Stored.{Stored}
+use Rattle.store_flash.specs.Flash.{leaves, storedNumber, unaligned}
+use Rattle.store_flash.specs.Flash as flash
+use Rattle.store_record.specs.State.{stateRead}
+use Rattle.store_record.specs.Record.{stateOf, refreshed, advanced, advanceAnswer, updating, validating}
+use Rattle.store_flash.proofs.Flash.{erased-length}
+use Rattle.store_flash.proofs.Answers.{erase-all}
+use Rattle.store_record.proofs.Record.{answer-above, advanced-refused, advanced-length, refreshed-length}
+use Rattle.wire_frames.specs.Fields.{addrOf, Ok, WriteError, AddrOutOfBounds}
+use Rattle.cmd_erase.specs.Erase.{Erased, countOf, eraseFits, readied, stuck, erasedTo, carried, eraseOf}
+
+-- the address a and the count n apart from the frame
+tested : (erase capacity : ℕ) (f : List ℕ) (a n : ℕ) → a ≡ addrOf f → n ≡ countOf f →
+    ltb 0 erase && (eqb (a % erase) 0 && (eqb (n % erase) 0 && (not (eqb n 0) && leb (a + n) capacity))) ≡ eraseFits erase capacity f
+unfolding eraseFits
+tested erase capacity f a n ea en = rw (ea, en) refl
+
+module _ (erase capacity : ℕ) (f : List ℕ) (a n : ℕ) (ea : a ≡ addrOf f) (en : n ≡ countOf f) where
+  pub fits-none : erase ≡ 0 → false ≡ eraseFits erase capacity f
+  fits-none w = simp (le-ltb 0 erase (omega arith)) at (tested erase capacity f a n ea en)
+
+  module _ (w : erase ≡ 0 → ⊥) where
+    some : ltb 0 erase ≡ true
+    some = lt-ltb 0 erase (omega arith)
+
+    pub fits-place : (a % erase ≡ 0 → ⊥) → false ≡ eraseFits erase capacity f
+    fits-place p = simp (some, ne-eqb (a % erase) 0 p) at (tested erase capacity f a n ea en)
+
+    module _ (p : a % erase ≡ 0) where
+      pub fits-count : (n % erase ≡ 0 → ⊥) → false ≡ eraseFits erase capacity f
+      fits-count q = simp (some, eq-eqb (a % erase) 0 p, ne-eqb (n % erase) 0 q) at (tested erase capacity f a n ea en)
+
+      module _ (q : n % erase ≡ 0) where
+        pub fits-empty : n ≡ 0 → false ≡ eraseFits erase capacity f
+        fits-empty z = simp (some, eq-eqb (a % erase) 0 p, eq-eqb (n % erase) 0 q, eq-eqb n 0 z) at (tested erase capacity f a n ea en)
+
+        pub fits-end : (n ≡ 0 → ⊥) → leb (a + n) capacity ≡ eraseFits erase capacity f
+        fits-end z = simp (some, eq-eqb (a % erase) 0 p, eq-eqb (n % erase) 0 q, ne-eqb n 0 z) at (tested erase capacity f a n ea en)
+
+not-not : (b : Bool) → b ≡ not (not b)
+not-not true = refl
+not-not false = refl
+
+-- s is the state as it was read
+module _ (meta : List ℕ) (s : ℕ) (e : s ≡ stateRead (stateOf meta)) where
+  pub ready-idle : s ≡ 0xFF → (r : Bool) (n : ℕ) → r ≡ eqb n 0 → n ≡ advanceAnswer meta → (r ≡ not (stuck meta)) × (advanced meta ≡ readied meta)
+  unfolding stuck readied
+  ready-idle w r n k a = (rw (← e, w, k, ← a) (not-not (eqb n 0)), rw (← e, w) refl)
+
+  pub ready-updating : s ≡ 0x7F → (true ≡ not (stuck meta)) × (meta ≡ readied meta)
+  unfolding stuck readied
+  ready-updating w = (rw (← e, w) refl, rw (← e, w) refl)
+
+  pub ready-validating : s ≡ 0x3F → (true ≡ not (stuck meta)) × (refreshed meta 0xFFFF 0x7F 0xFFFFFFFF ≡ readied meta)
+  unfolding stuck readied
+  ready-validating w = (rw (← e, w) refl, rw (← e, w) refl)
+
+-- a record that is stuck is kept: its state byte is not above the floor
+pub stuck-kept : (meta : List ℕ) → stuck meta ≡ true → readied meta ≡ meta
+unfolding stuck readied
+stuck-kept meta = go (updating meta) (validating meta) (eqb (advanceAnswer meta) 0) refl
+  where
+    low : eqb (advanceAnswer meta) 0 ≡ false → advanced meta ≡ meta
+    low z = floor (leb (stateOf meta) 0x3F) refl
+      where
+        floor : (t : Bool) → leb (stateOf meta) 0x3F ≡ t → advanced meta ≡ meta
+        floor true w = advanced-refused meta (leb-true _ _ w)
+        floor false w = absurd (eqb-false _ _ z (answer-above 0x3F 1 (stateOf meta) (leb-false _ _ w)))
+
+    go : (u v t : Bool) → eqb (advanceAnswer meta) 0 ≡ t → not u && (not v && not t) ≡ true →
+        pick u meta (pick v (refreshed meta 0xFFFF 0x7F 0xFFFFFFFF) (advanced meta)) ≡ meta
+    go true v t w h = refl
+    go false true t w h = let z : _≡_ {A = ℕ} 0 1 = cc in absurd (omega arith)
+    go false false true w h = let z : _≡_ {A = ℕ} 0 1 = cc in absurd (omega arith)
+    go false false false w h = low w
+
+module _ (page erase capacity : ℕ) (f cells meta : List ℕ) (b : Bool) (e : b ≡ eraseFits erase capacity f) where
+  pub erase-outside : b ≡ false → erasedTo AddrOutOfBounds cells meta ≡ eraseOf page erase capacity f cells meta
+  unfolding eraseOf
+  erase-outside w = simp (← e, w)
+
+  -- m is the record once it is ready, r whether it is
+  module _ (w : b ≡ true) (r : Bool) (m : List ℕ) (k : (r ≡ not (stuck meta)) × (m ≡ readied meta)) where
+    pub erase-stuck : r ≡ false → erasedTo WriteError cells m ≡ eraseOf page erase capacity f cells meta
+    unfolding eraseOf
+    erase-stuck h =
+        let s : stuck meta ≡ true = not-false (stuck meta) (sym (k .0) ∙ h) in
+        rw (k .1, stuck-kept meta s, ← e, w, s) refl
+
+    -- s is the storage's answer, x the cells that it leaves, t the status that the answer stands for
+    pub erase-carried : r ≡ true → (a n : ℕ) → a ≡ addrOf f → n ≡ countOf f → (s : Stored) (x : List ℕ) → leaves s x ≡ flash.eraseOf page cells a (a + n) →
+        (t : ℕ) → t ≡ pick (eqb (storedNumber s) 0) Ok WriteError → erasedTo t x m ≡ eraseOf page erase capacity f cells meta
+    unfolding eraseOf
+    erase-carried h a n ea en s x l t q =
+        let z : stuck meta ≡ false = not-true (stuck meta) (sym (k .0) ∙ h) in
+        rw (← e, w, z, ← ea, ← en, ← l, q, k .1) refl
+
+-- a number that the erase size divides is a multiple of the page too
+whole : (page erase x : ℕ) → erase % page ≡ 0 → x % erase ≡ 0 → x % page ≡ 0
+whole page erase x d h = mod-eq-zero-of-dvd page (dvd-trans page (dvd-of-mod-eq-zero page d) (dvd-of-mod-eq-zero erase h))
+
+whole-end : (page x y : ℕ) → x % page ≡ 0 → y % page ≡ 0 → (x + y) % page ≡ 0
+whole-end page x y hx hy = mod-eq-zero-of-dvd page (dvd-add page (dvd-of-mod-eq-zero page hx) (dvd-of-mod-eq-zero page hy))
+
+-- what a range that fits says
+pub record Fitting (erase capacity a n : ℕ) : Type 0 where
+  pub some : 0 < erase
+  pub place : a % erase ≡ 0
+  pub count : n % erase ≡ 0
+  pub least : 0 < n
+  pub most : a + n ≤ capacity
+
+pub fitting : (erase capacity : ℕ) (f : List ℕ) → eraseFits erase capacity f ≡ true → Fitting erase capacity (addrOf f) (countOf f)
+unfolding eraseFits
+fitting erase capacity f h =
+    let h1 = and-both (ltb 0 erase) _ h in
+    let h2 = and-both (eqb (addrOf f % erase) 0) _ (h1 .1) in
+    let h3 = and-both (eqb (countOf f % erase) 0) _ (h2 .1) in
+    let h4 = and-both (not (eqb (countOf f) 0)) _ (h3 .1) in
+    let z : countOf f ≡ 0 → ⊥ = eqb-false (countOf f) 0 (not-true _ (h4 .0)) in
+    record {
+      some = ltb-true 0 erase (h1 .0);
+      place = eqb-true _ _ (h2 .0);
+      count = eqb-true _ _ (h3 .0);
+      least = omega arith;
+      most = leb-true _ _ (h4 .1);
+    }
+
+-- under a good setup the storage never refuses: the page divides the erase size, and the flash is as long as the capacity
+module _ (page erase capacity : ℕ) (f cells : List ℕ) (d : erase % page ≡ 0) (l : length cells ≡ capacity) where
+  pub erase-taken : eraseFits erase capacity f ≡ true →
+      flash.eraseOf page cells (addrOf f) (addrOf f + countOf f) ≡ leaves Stored.Done (flash.erased cells (addrOf f) (countOf f))
+  erase-taken h =
+      let g = fitting erase capacity f h in
+      let p = whole page erase (addrOf f) d (g .place) in
+      let q = whole page erase (countOf f) d (g .count) in
+      let e : (a n : ℕ) → a + n - a ≡ n = λ a n. omega arith in
+      rw (e (addrOf f) (countOf f)) at
+      (erase-all page cells (addrOf f) (addrOf f + countOf f) p (whole-end page (addrOf f) (countOf f) p q) (rw (← l) at (g .most)))
+
+  -- so an Erase that fits is Ok, unless the record is stuck
+  pub erase-good : (meta : List ℕ) → eraseOf page erase capacity f cells meta ≡
+      pick (eraseFits erase capacity f)
+      (pick (stuck meta) (erasedTo WriteError cells meta) (erasedTo Ok (flash.erased cells (addrOf f) (countOf f)) (readied meta)))
+      (erasedTo AddrOutOfBounds cells meta)
+  unfolding eraseOf
+  erase-good meta = go (eraseFits erase capacity f) refl
+    where
+      go : (b : Bool) → eraseFits erase capacity f ≡ b →
+          pick b
+          (pick (stuck meta) (erasedTo WriteError cells meta)
+          (carried (flash.eraseOf page cells (addrOf f) (addrOf f + countOf f)) (readied meta)))
+          (erasedTo AddrOutOfBounds cells meta)
+          ≡ pick b
+          (pick (stuck meta) (erasedTo WriteError cells meta) (erasedTo Ok (flash.erased cells (addrOf f) (countOf f)) (readied meta)))
+          (erasedTo AddrOutOfBounds cells meta)
+      go true h = rw (erase-taken h) refl
+      go false h = refl
+
+-- lengths are kept, whatever the setup
+left-length : (page : ℕ) (cells : List ℕ) (from to : ℕ) → length (flash.eraseOf page cells from to .cells) ≡ length cells
+unfolding flash.eraseOf
+left-length page cells from to = go (unaligned page from || unaligned page to) (ltb (length cells) to)
+  where
+    go : (u o : Bool) →
+        length
+        (pick u (leaves Stored.NotAligned cells) (pick o (leaves Stored.OutOfBounds cells) (leaves Stored.Done (flash.erased cells from (to - from)))) .cells)
+        ≡ length cells
+    go true o = refl
+    go false true = refl
+    go false false = erased-length cells from (to - from)
+
+pub readied-length : (meta : List ℕ) → length (readied meta) ≡ length meta
+unfolding readied
+readied-length meta = go (updating meta) (validating meta)
+  where
+    go : (u v : Bool) → length (pick u meta (pick v (refreshed meta 0xFFFF 0x7F 0xFFFFFFFF) (advanced meta))) ≡ length meta
+    go true v = refl
+    go false true = refreshed-length meta 0xFFFF 0x7F 0xFFFFFFFF
+    go false false = advanced-length meta
+
+module _ (page erase capacity : ℕ) (f cells meta : List ℕ) where
+  either : (b s : Bool) → Erased
+  either b s =
+      pick b
+      (pick s (erasedTo WriteError cells meta)
+      (carried (flash.eraseOf page cells (addrOf f) (addrOf f + countOf f)) (readied meta)))
+      (erasedTo AddrOutOfBounds cells meta)
+
+  pub erase-flash-length : length (eraseOf page erase capacity f cells meta .flash) ≡ length cells
+  unfolding eraseOf either
+  erase-flash-length = go (eraseFits erase capacity f) (stuck meta)
+    where
+      go : (b s : Bool) → length (either b s .flash) ≡ length cells
+      go true true = refl
+      go true false = left-length page cells (addrOf f) (addrOf f + countOf f)
+      go false s = refl
+
+  pub erase-meta-length : length (eraseOf page erase capacity f cells meta .meta) ≡ length meta
+  unfolding eraseOf either
+  erase-meta-length = go (eraseFits erase capacity f) (stuck meta)
+    where
+      go : (b s : Bool) → length (either b s .meta) ≡ length meta
+      go true true = refl
+      go true false = readied-length meta
+      go false s = refl

@@ -1,3 +1,0 @@
-pub mod Verifying
-pub mod Resetting
-pub mod Rows

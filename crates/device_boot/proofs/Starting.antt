@@ -1,0 +1,104 @@
+-- The decision of a start, case by case.
+use Prim.Native.Nat.{ℕ, _≤_, _<_}
+use mathlib.Core.Path.{_≡_, refl, sym, _∙_}
+use mathlib.Core.List.{List}
+use mathlib.Core.Bool.{Bool, true, false, not, _&&_}
+use mathlib.Core.Logic.{_⊎_, inl, inr}
+use native.Mathlib.Omega.{arith}
+use borrow.Author.Tests.{eq-eqb, ne-eqb, le-leb, lt-leb, eqb-false}
+use Rattle.laws.specs.Pick.{pick}
+use Rattle.store_record.proofs.Record.{answer-above}
+use lib.ListN.{take}
+use lib.Dec.{leb, eqb}
+use Rattle.wire_numbers.specs.Crc.{crcOf}
+use Rattle.store_record.specs.State.{stateRead, appPresent}
+use Rattle.store_record.specs.Record.{stateOf, trialsOf, checksumOf, sizeOf, trialAnswer, trialUsed}
+use Rattle.device_boot.specs.Start.{validOf, Clearance, clears, triedOf, clearedOf, Decision, stays, goesOn, startOf}
+
+module _ (capacity : ℕ) (flash meta : List ℕ) where
+  pub valid-bare : checksumOf meta ≡ 0xFFFF → validOf capacity flash meta ≡ appPresent flash
+  unfolding validOf
+  valid-bare e = simp (eq-eqb _ _ e)
+
+  pub valid-long : (checksumOf meta ≡ 0xFFFF → ⊥) → capacity < sizeOf meta → validOf capacity flash meta ≡ false
+  unfolding validOf
+  valid-long e h = simp (ne-eqb _ _ e, lt-leb _ _ h)
+
+  pub valid-crc : (checksumOf meta ≡ 0xFFFF → ⊥) → sizeOf meta ≤ capacity → validOf capacity flash meta ≡ eqb (crcOf (take (sizeOf meta) flash)) (checksumOf meta)
+  unfolding validOf
+  valid-crc e h = simp (ne-eqb _ _ e, le-leb _ _ h)
+
+not-off : (b : Bool) → not b ≡ false → b ≡ true
+not-off true e = refl
+not-off false e = cc
+
+not-on : (b : Bool) → not b ≡ true → b ≡ false
+not-on true e = cc
+not-on false e = refl
+
+module _ (meta : List ℕ) where
+  pub tried-none : (b : Bool) → b ≡ false → b ≡ not (eqb (trialsOf meta) 0) → clears false meta ≡ triedOf meta
+  unfolding triedOf
+  tried-none b w e = simp (not-off (eqb (trialsOf meta) 0) (sym e ∙ w))
+
+  -- a trial that is left is used: the step's answer, n, is 0
+  pub tried-one : (b : Bool) → b ≡ true → b ≡ not (eqb (trialsOf meta) 0) → (r : Bool) (n : ℕ) → r ≡ eqb n 0 → n ≡ trialAnswer meta →
+      clears r (trialUsed meta) ≡ triedOf meta
+  unfolding triedOf
+  tried-one b w e r n k a =
+      let z : eqb (trialsOf meta) 0 ≡ false = not-on (eqb (trialsOf meta) 0) (sym e ∙ w) in
+      let x : trialsOf meta ≡ 0 → ⊥ = eqb-false _ _ z in
+      let y : n ≡ 0 = a ∙ answer-above 0 2 (trialsOf meta) (omega arith) in
+      rw (k, y, z) refl
+
+  module _ (s : ℕ) (e : s ≡ stateRead (stateOf meta)) where
+    pub clear-updating : s ≡ 0x7F → clears false meta ≡ clearedOf meta
+    unfolding clearedOf
+    clear-updating w = simp (eq-eqb _ _ (sym e ∙ w))
+
+    pub clear-validating : s ≡ 0x3F → triedOf meta ≡ clearedOf meta
+    unfolding clearedOf
+    clear-validating w = rw (← e, w) refl
+
+    pub clear-idle : s ≡ 0xFF → clears true meta ≡ clearedOf meta
+    unfolding clearedOf
+    clear-idle w = rw (← e, w) refl
+
+module _ (capacity : ℕ) (flash meta : List ℕ) where
+  pub start-asked : stays meta ≡ startOf capacity 1 flash meta
+  unfolding startOf
+  start-asked = refl
+
+  -- c is the record once a trial is used, b whether the start goes on
+  pub start-stays : (b : Bool) (c : List ℕ) → clears b c ≡ clearedOf meta → b ≡ false → stays c ≡ startOf capacity 0 flash meta
+  unfolding startOf
+  start-stays b c e w = let x : clearedOf meta ≡ clears false c = sym (rw w at e) in simp x
+
+  pub start-judged : (b : Bool) (c : List ℕ) → clears b c ≡ clearedOf meta → b ≡ true → (v : Bool) → v ≡ validOf capacity flash c →
+      pick v (record { mode = 0; meta = c }) (stays c) ≡ startOf capacity 0 flash meta
+  unfolding startOf
+  start-judged b c e w v k = let x : clearedOf meta ≡ clears true c = sym (rw w at e) in rw (x, k) refl
+
+-- of the record nothing but the trials byte changes
+pub start-record : (capacity mode : ℕ) (flash meta : List ℕ) → (startOf capacity mode flash meta .meta ≡ meta) ⊎ (startOf capacity mode flash meta .meta ≡ trialUsed meta)
+unfolding startOf clearedOf triedOf
+start-record capacity mode flash meta =
+    go (eqb mode 1) (eqb (stateRead (stateOf meta)) 0x7F) (eqb (stateRead (stateOf meta)) 0x3F) (eqb (trialsOf meta) 0)
+  where
+    same : (c : Clearance) → goesOn capacity flash c .meta ≡ c .meta
+    same c = either (c .clear && validOf capacity flash (c .meta))
+      where
+        either : (t : Bool) → pick t (record { mode = 0; meta = c .meta }) (stays (c .meta)) .meta ≡ c .meta
+        either true = refl
+        either false = refl
+
+    go : (asked updating validating none : Bool) →
+        (pick asked (stays meta) (goesOn capacity flash
+        (pick updating (clears false meta) (pick validating (pick none (clears false meta) (clears true (trialUsed meta))) (clears true meta)))) .meta ≡ meta) ⊎
+        (pick asked (stays meta) (goesOn capacity flash
+        (pick updating (clears false meta) (pick validating (pick none (clears false meta) (clears true (trialUsed meta))) (clears true meta)))) .meta ≡ trialUsed meta)
+    go true u v n = inl refl
+    go false true v n = inl (same (clears false meta))
+    go false false true true = inl (same (clears false meta))
+    go false false true false = inr (same (clears true (trialUsed meta)))
+    go false false false n = inl (same (clears true meta))

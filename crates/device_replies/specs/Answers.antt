@@ -1,0 +1,33 @@
+-- What a call says (01, What a call says): each case of the answer by its number, with the reply's length, the wait before it and the mode of a restart.
+use Prim.Native.Nat.{ℕ}
+use Rattle.wire_numbers.specs.Names.{modeNumber}
+use Rattle.device_replies.specs.declared.Answer.{Answer}
+
+pub record Told : Type 0 where
+  pub number : ℕ
+  pub len : ℕ
+  pub wait : ℕ
+  pub mode : ℕ
+
+-- where there is no reply its length and its wait are 0; the mode is Service, 1, but for answer 3
+abbrev pub mute : ℕ → Told
+mute number = record { number = number; len = 0; wait = 0; mode = 1 }
+
+abbrev pub reply : ℕ → ℕ → Told
+reply len wait = record { number = 2; len = len; wait = wait; mode = 1 }
+
+-- only a Select's reply waits
+abbrev pub restart : ℕ → ℕ → Told
+restart len mode = record { number = 3; len = len; wait = 0; mode = mode }
+
+abbrev pub toldOf : Answer → Told
+toldOf Answer.Quiet = mute 0
+toldOf Answer.Silent = mute 1
+toldOf (Answer.Reply len wait) = reply len wait
+toldOf (Answer.Restart len mode) = restart len (modeNumber mode)
+toldOf Answer.BadSetup = mute 10
+toldOf Answer.BadState = mute 11
+toldOf Answer.BadFlash = mute 12
+toldOf Answer.BadRecord = mute 13
+toldOf Answer.NoRoom = mute 14
+toldOf Answer.Closed = mute 15

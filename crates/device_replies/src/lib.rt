@@ -1,0 +1,69 @@
+// The answers of a call, and the reply that two of them tell of. Translated from tinyboot, lib/core/src/protocol.rs (MIT OR Apache-2.0); changed: a reply is written
+// into a lent room, the wait and the restart are answers.
+
+use wire_numbers::ResetFlags;
+use wire_numbers::RunMode;
+use wire_numbers::Status;
+use wire_numbers::le;
+ghost use mathlib.Core.Path.{_≡_};
+ghost use Rattle.wire_numbers.specs.Names.{statusNumber};
+ghost use Rattle.wire_frames.specs.Fields.{flagsOf};
+ghost use Rattle.device_replies.specs.Answers.{toldOf};
+ghost use Rattle.device_replies.specs.Reply.{headed, spoken, replyOf};
+
+// What a call says: no frame has ended; one has, and there is no reply; there is one, to be sent after a wait of so many byte-times; there is one, and a
+// restart in this mode is due after it; or the call is refused, and nothing has changed.
+pub enum Answer {
+    Quiet,
+    Silent,
+    Reply { len: usize, wait: u8 },
+    Restart { len: usize, mode: RunMode },
+    BadSetup,
+    BadState,
+    BadFlash,
+    BadRecord,
+    NoRoom,
+    Closed,
+}
+
+// The reply's status and length.
+fn head(f: &mut [u8; 64], status: Status, len: u16)
+    ensures { λ r. ⌜ now (f .exit) ≡ headed (statusNumber status) len (now (f .entry)) ⌝ }
+{
+    let n = le::bytes16(len);
+    f[3] = status.to_u8();
+    f[8] = n[0];
+    f[9] = n[1];
+}
+
+fn flags(f: &[u8; 64]) -> ResetFlags
+    ensures { λ r. ⌜ r .bits ≡ flagsOf (now (f .entry)) ⌝ }
+{
+    ResetFlags { bits: f[7] }
+}
+
+// The reply is built in the frame and sent into the room.
+pub fn reply(
+    status: Status,
+    len: u16,
+    restart: bool,
+    wait: u8,
+    f: &mut [u8; 64],
+    room: &mut [u8],
+) -> Answer
+    ensures { λ r. ⌜ spoken (toldOf r) (now (f .exit)) (now (room .exit)) ≡ replyOf 52 (statusNumber status) len restart wait (now (f .entry)) (now (room .entry)) ⌝ }
+{
+    let asked = flags(f);
+    head(f, status, len);
+    let sent = wire_sender::send(f, room);
+    if restart {
+        return Answer::Restart {
+            len: sent,
+            mode: asked.run_mode(),
+        };
+    }
+    Answer::Reply {
+        len: sent,
+        wait: wait,
+    }
+}

@@ -1,0 +1,22 @@
+use mathlib.Core.Path.{sym, _∙_}
+use Rattle.device_state.specs.Refusals.{setUp}
+use native.Mathlib.Omega.{arith}
+use borrow.Author.Needs.{needs}
+use Rattle.device_state.proofs.refusal.fits.Statement.{statement}
+use Rattle.device_state.proofs.refusal.fits.Tie as tie
+
+returns : tie.Need-returns
+unfolding setUp
+returns c = simp (sym (c .before .before .before .erase-fits .ensures) ∙ c .before .before .if1 .taken, sym (c .before .capacity-fits .ensures) ∙ c .if2 .taken)
+
+returns-2 : tie.Need-returns-2
+unfolding setUp
+returns-2 c = simp (sym (c .before .before .before .erase-fits .ensures) ∙ c .before .before .if1 .taken, sym (c .before .capacity-fits .ensures) ∙ c .if2 .left)
+
+returns-3 : tie.Need-returns-3
+unfolding setUp
+returns-3 c = simp (sym (c .before .erase-fits .ensures) ∙ c .if1 .left)
+
+pub fits-spec : {M : Type 1} → statement M
+fits-spec =
+    tie.close (tie.spec (λ c κs. search needs) (λ c κs. search needs) returns returns-2 returns-3)

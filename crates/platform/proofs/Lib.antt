@@ -1,3 +1,0 @@
-pub mod States
-pub mod Record
-pub mod Bytes

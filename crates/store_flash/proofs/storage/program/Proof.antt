@@ -1,0 +1,67 @@
+-- The loop's invariant: writing what is left from `j` on gives the whole write.
+use mathlib.Core.Path.{_≡_, sym, _∙_}
+use Prim.Native.Nat.{_+_, _-_, _≤_}
+use native.Mathlib.Nat.{add-zero}
+use lib.ListN.{length, drop, length-set}
+use Rattle.store_flash.specs.Flash.{written}
+use Rattle.store_flash.proofs.Flash.{write-more, write-done}
+use native.Mathlib.Omega.{arith}
+use borrow.Author.Needs.{needs}
+use Rattle.store_flash.proofs.storage.program.Statement.{statement}
+use Rattle.store_flash.proofs.storage.program.Tie as tie
+
+abbrev Inv-loop : tie.InvT-loop
+Inv-loop flash₀ at bytes j₀ flash j =
+    (j ≤ length bytes) × (length flash ≡ length flash₀) × (written flash (at + j) (drop j bytes) ≡ written flash₀ at bytes)
+
+abbrev μ-loop : tie.MeasureT-loop
+μ-loop flash₀ at bytes j₀ flash j = length bytes - j
+
+loop-holds : tie.Need-loop-holds Inv-loop μ-loop
+loop-holds c = (search needs, search needs, rw add-zero)
+
+add-k : tie.Need-add-k Inv-loop μ-loop
+add-k c = search needs
+
+slice-read-flash : tie.Need-slice-read-flash Inv-loop μ-loop
+slice-read-flash c = search needs
+
+shared-slice-read-flash : tie.Need-shared-slice-read-flash Inv-loop μ-loop
+shared-slice-read-flash c = search needs
+
+slice-write-flash : tie.Need-slice-write-flash Inv-loop μ-loop
+slice-write-flash c = search needs
+
+add-j : tie.Need-add-j Inv-loop μ-loop
+add-j c = search needs
+
+loop-less : tie.Need-loop-less Inv-loop μ-loop
+loop-less c = search needs
+
+loop-again : tie.Need-loop-again Inv-loop μ-loop
+loop-again c =
+    let l = c .before .before .before .loop in
+    (search needs, simp length-set (l .inv .1), write-more _ _ _ _ (c .before .before .loop-test .taken) (omega arith) ∙ l .inv .2)
+
+same-length : tie.Need-same-length Inv-loop μ-loop
+same-length c = search needs
+
+returns : tie.Need-returns Inv-loop μ-loop
+returns c = sym (write-done _ _ _ _ (c .loop-test .left)) ∙ c .before .loop .inv .2
+
+pub program-spec : {M : Type 1} → statement M
+program-spec =
+    tie.close
+    (tie.spec
+    Inv-loop
+    μ-loop
+    loop-holds
+    add-k
+    slice-read-flash
+    shared-slice-read-flash
+    slice-write-flash
+    add-j
+    loop-less
+    loop-again
+    same-length
+    returns)

@@ -1,0 +1,4 @@
+pub mod States
+pub mod Record
+pub mod Bytes
+pub mod Samples

@@ -1,0 +1,105 @@
+-- The record (01, Record, flash, start): twelve bytes, which hold the fields below and three that are reserved. A byte past the end of a shorter one reads
+-- as 0xFF, and a store there changes nothing.
+use Prim.Native.Nat.{ℕ, zero, suc, _/_, _%_, max}
+use mathlib.Core.Bool.{Bool}
+use mathlib.Core.List.{List, [], _∷_, _++_}
+use lib.ListN.{getD, set, drop}
+use lib.Seq.{sets}
+use lib.Bits.{bitAnd}
+use lib.Dec.{leb, eqb}
+use Rattle.laws.specs.Pick.{pick}
+use Rattle.laws.specs.Low.{lowFirst, lowBytes}
+use Rattle.store_record.specs.declared.boot_meta_store.Step.{Step}
+use Rattle.store_record.specs.State.{stateRead}
+
+-- the fields by their offsets, longer numbers low byte first
+abbrev pub stateOf : List ℕ → ℕ
+stateOf m = getD m 0 0xFF
+
+abbrev pub trialsOf : List ℕ → ℕ
+trialsOf m = getD m 1 0xFF
+
+abbrev pub checksumOf : List ℕ → ℕ
+checksumOf m = lowFirst (getD m 2 0xFF ∷ getD m 3 0xFF ∷ [])
+
+abbrev pub sizeOf : List ℕ → ℕ
+sizeOf m = lowFirst (getD m 4 0xFF ∷ getD m 5 0xFF ∷ getD m 6 0xFF ∷ getD m 7 0xFF ∷ [])
+
+abbrev pub baudOf : List ℕ → ℕ
+baudOf m = getD m 8 0xFF
+
+abbrev pub reservedOf : List ℕ → List ℕ
+reservedOf m = drop 9 m
+
+-- whether the record says that an update is under way, or waits for its trial
+abbrev pub updating : List ℕ → Bool
+updating m = eqb (stateRead (stateOf m)) 0x7F
+
+abbrev pub validating : List ℕ → Bool
+validating m = eqb (stateRead (stateOf m)) 0x3F
+
+-- a rewrite: state, all trials, checksum and size; baud and reserved bytes are kept
+abbrev pub refreshed : List ℕ → ℕ → ℕ → ℕ → List ℕ
+refreshed m checksum state size = sets m 0 (state ∷ 0xFF ∷ (lowBytes 2 checksum ++ lowBytes 4 size))
+
+-- a rewrite of the baud alone, which keeps the trials too
+abbrev pub baudSet : List ℕ → ℕ → List ℕ
+baudSet m baud = set m 8 baud
+
+-- a step down: x AND x shifted right by one
+abbrev pub half : ℕ → ℕ
+half x = bitAnd x (x / 2)
+
+-- a byte above its floor is stepped down
+unfoldable pub stepped : ℕ → ℕ → ℕ
+stepped floor x = pick (leb x floor) x (half x)
+
+-- the answers in the order of the enum: Done 0, and boot_meta_store.rs's InvalidTransition 1, TrialsExhausted 2
+abbrev pub stepNumber : Step → ℕ
+stepNumber Step.Done = 0
+stepNumber Step.InvalidTransition = 1
+stepNumber Step.TrialsExhausted = 2
+
+-- the answer of a step: the refusal for a byte at or below its floor, which stays
+unfoldable pub stepAnswer : ℕ → ℕ → ℕ → ℕ
+stepAnswer floor refusal x = pick (leb x floor) refusal 0
+
+-- the state stepped down (01, Commands, Erase); the floor is Validating's byte, as in boot_meta_store.rs
+abbrev pub advanceAnswer : List ℕ → ℕ
+advanceAnswer m = stepAnswer 0x3F 1 (stateOf m)
+
+abbrev pub advanced : List ℕ → List ℕ
+advanced m = set m 0 (stepped 0x3F (stateOf m))
+
+-- a trial used; with none left, nothing changes
+abbrev pub trialAnswer : List ℕ → ℕ
+trialAnswer m = stepAnswer 0 2 (trialsOf m)
+
+abbrev pub trialUsed : List ℕ → List ℕ
+trialUsed m = set m 1 (stepped 0 (trialsOf m))
+
+-- what a step leaves: the number of its answer, and the record
+pub record Stepped : Type 0 where
+  pub answer : ℕ
+  pub meta : List ℕ
+
+abbrev pub left : ℕ → List ℕ → Stepped
+left answer m = record { answer = answer; meta = m }
+
+abbrev pub stepsTo : Step → List ℕ → Stepped
+stepsTo s = left (stepNumber s)
+
+abbrev pub advanceOf : List ℕ → Stepped
+advanceOf m = left (advanceAnswer m) (advanced m)
+
+abbrev pub trialOf : List ℕ → Stepped
+trialOf m = left (trialAnswer m) (trialUsed m)
+
+-- the longest run among the d low bits of x, where the run under way has `run` ones
+unfoldable pub longest : ℕ → ℕ → ℕ → ℕ
+longest zero x run = run
+longest (suc d) x run = max run (longest d (x / 2) (pick (eqb (x % 2) 1) (suc run) 0))
+
+-- how many starts a trials byte allows (01, Record, flash, start): the longest run of ones among its bits
+unfoldable pub startsLeft : ℕ → ℕ
+startsLeft x = longest 8 x 0
