@@ -1,7 +1,10 @@
 // What `d` shows of the bench.
 use crate::module::Bench;
 use crate::show;
+use device_state::Numbers;
 use store_flash::cells::first;
+use store_flash::storage::NONE_PENDING;
+use wire_frames::frame::FrameBytes;
 use wire_numbers::crc::CRC_INIT;
 use wire_numbers::crc::crc16;
 
@@ -26,7 +29,7 @@ fn listed(out: &mut [u8], at: usize, name: &[u8], s: &[u8]) -> usize {
 }
 
 fn pending(out: &mut [u8], at: usize, next: u32) -> usize {
-    if next == 0xFFFF_FFFF {
+    if next == NONE_PENDING {
         return show::text(out, at, b" -");
     }
     show::next_decimal(out, at, next as u64)
@@ -37,12 +40,12 @@ fn flags(out: &mut [u8], at: usize, selected: bool, closed: bool) -> usize {
     show::next_decimal(out, at, !closed as u64)
 }
 
-fn state(out: &mut [u8], at: usize, bench: Bench) -> usize {
+fn state(out: &mut [u8], at: usize, n: Numbers) -> usize {
     let at = show::text(out, at, b"state");
-    let at = show::next_decimal(out, at, bench.got as u64);
-    let at = show::next_decimal(out, at, bench.fill as u64);
-    let at = pending(out, at, bench.next);
-    let at = flags(out, at, bench.selected, bench.closed);
+    let at = show::next_decimal(out, at, n.got as u64);
+    let at = show::next_decimal(out, at, n.fill as u64);
+    let at = pending(out, at, n.next);
+    let at = flags(out, at, n.selected, n.closed);
     show::byte(out, at, b'\n')
 }
 
@@ -56,16 +59,17 @@ fn area(out: &mut [u8], at: usize, f: &[u8]) -> usize {
 
 pub(crate) fn dump(
     bench: Bench,
-    f: &[u8; 64],
+    f: &FrameBytes,
     flash: &[u8],
-    record: &[u8],
     room: &[u8],
     out: &mut [u8],
 ) -> Bench {
     let mut bench = bench;
+    let n = bench.numbers;
+    let meta = bench.meta;
     let at = summed(out, bench.out, b"flash", first(flash, bench.flash));
-    let at = listed(out, at, b"record", first(record, bench.record));
-    let at = state(out, at, bench);
+    let at = listed(out, at, b"record", first(&meta, bench.record));
+    let at = state(out, at, n);
     let at = area(out, at, f);
     let at = summed(out, at, b"room", first(room, bench.room));
     bench.out = at;

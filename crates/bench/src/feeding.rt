@@ -7,6 +7,8 @@ use device_feed::Passed;
 use device_feed::feed_in;
 use device_replies::Answer;
 use store_flash::cells::first;
+use store_flash::storage::Page;
+use wire_frames::frame::FrameBytes;
 use wire_numbers::RunMode;
 ghost use mathlib.Core.Path.{_≡_};
 ghost use Rattle.wire_numbers.specs.Names.{modeNumber};
@@ -39,7 +41,8 @@ fn mute(number: u64) -> Said
 }
 
 fn numbers_of(answer: Answer) -> Said
-    ensures { λ r. ⌜ (r .number ≡ toldOf answer .number) × (r .len ≡ toldOf answer .len) × (r .wait ≡ toldOf answer .wait) × (modeNumber (r .mode) ≡ toldOf answer .mode) ⌝ }
+    ensures { λ r. ⌜ (r .number ≡ toldOf answer .number) × (r .len ≡ toldOf answer .len) × (r .wait ≡ toldOf answer .wait)
+        × (modeNumber (r .mode) ≡ toldOf answer .mode) ⌝ }
 {
     match answer {
         Answer::Quiet => mute(0),
@@ -90,28 +93,25 @@ fn tell(out: &mut [u8], at: usize, said: Said, taken: usize, room: &[u8]) -> usi
 fn fed(
     bench: Bench,
     bytes: &[u8],
-    f: &mut [u8; 64],
-    page: &mut [u8; 64],
+    f: &mut FrameBytes,
+    page: &mut Page,
     flash: &mut [u8],
-    record: &mut [u8],
+    meta: &mut [u8],
     room: &mut [u8],
 ) -> Passed {
     let setup = bench.setup;
+    let n = bench.numbers;
     let flash_len = module::lent(bench.flash, flash);
-    let record_len = module::lent(bench.record, record);
+    let meta_len = module::lent(bench.record, meta);
     let room_len = module::lent(bench.room, room);
     feed_in(
         setup,
-        bench.got,
-        bench.fill,
-        bench.next,
-        bench.selected,
-        bench.closed,
+        n,
         f,
         page,
         bytes,
         &mut flash[..flash_len],
-        &mut record[..record_len],
+        &mut meta[..meta_len],
         &mut room[..room_len],
     )
 }
@@ -120,23 +120,21 @@ fn fed(
 fn call(
     bench: Bench,
     bytes: &[u8],
-    f: &mut [u8; 64],
-    page: &mut [u8; 64],
+    f: &mut FrameBytes,
+    page: &mut Page,
     flash: &mut [u8],
-    record: &mut [u8],
     room: &mut [u8],
     out: &mut [u8],
 ) -> Called {
     let mut bench = bench;
-    let p = fed(bench, bytes, f, page, flash, record, room);
+    let mut meta = bench.meta;
+    let p = fed(bench, bytes, f, page, flash, &mut meta, room);
     let answer = p.answer;
     let s = numbers_of(answer);
     let at = tell(out, bench.out, s, p.taken, room);
-    bench.got = p.got;
-    bench.fill = p.fill;
-    bench.next = p.next;
-    bench.selected = p.selected;
-    bench.closed = p.closed;
+    let n = p.numbers;
+    bench.numbers = n;
+    bench.meta = meta;
     bench.out = at;
     Called {
         bench: bench,
@@ -148,14 +146,13 @@ fn call(
 pub(crate) fn once(
     bench: Bench,
     bytes: &[u8],
-    f: &mut [u8; 64],
-    page: &mut [u8; 64],
+    f: &mut FrameBytes,
+    page: &mut Page,
     flash: &mut [u8],
-    record: &mut [u8],
     room: &mut [u8],
     out: &mut [u8],
 ) -> Bench {
-    let c = call(bench, bytes, f, page, flash, record, room, out);
+    let c = call(bench, bytes, f, page, flash, room, out);
     let after = c.bench;
     after
 }
@@ -164,17 +161,16 @@ pub(crate) fn once(
 pub(crate) fn all(
     bench: Bench,
     bytes: &[u8],
-    f: &mut [u8; 64],
-    page: &mut [u8; 64],
+    f: &mut FrameBytes,
+    page: &mut Page,
     flash: &mut [u8],
-    record: &mut [u8],
     room: &mut [u8],
     out: &mut [u8],
 ) -> Bench {
     let mut bench = bench;
     let mut at: usize = 0;
     loop {
-        let c = call(bench, &bytes[at..], f, page, flash, record, room, out);
+        let c = call(bench, &bytes[at..], f, page, flash, room, out);
         bench = c.bench;
         let n = c.taken;
         if n == 0 || !c.more {

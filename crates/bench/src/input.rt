@@ -32,12 +32,12 @@ fn refilled(block: &mut [u8], at: usize, end: usize) -> Place
     Place { at: 0, end: n }
 }
 
-// The next line. A proved loop has to end, and a line may be of any length, so the reads are counted from a number that no run uses up.
-pub(crate) fn next(block: &mut [u8], at: usize, end: usize, bytes: &mut [u8]) -> Taken
+// Line `number`, the next. A proved loop has to end, and a line may be of any length, so the reads are counted from a number that no run uses up.
+pub(crate) fn next(number: u64, block: &mut [u8], at: usize, end: usize, bytes: &mut [u8]) -> Taken
     requires { ⌜ (at ≤ end) × (end ≤ length (now block)) ⌝ }
     ensures { λ r. ⌜ (r .at ≤ r .end) × (r .end ≤ length (now (block .exit))) ⌝ }
 {
-    let mut line = Line::new();
+    let mut line = Line::new(number);
     let mut at = at;
     let mut end = end;
     let mut reads = u64::MAX;

@@ -1,6 +1,7 @@
 // What a line may carry.
 use crate::numbers;
 use store_flash::cells::byte_at;
+use wire_frames::frame::FRAME;
 ghost use mathlib.Core.Path.{_≡_};
 ghost use Prim.Native.Nat.{_+_, _-_};
 ghost use lib.Dec.{leb};
@@ -94,7 +95,7 @@ fn is_within(letter: u8, bytes: &[u8]) -> bool
             FLASH,
         ),
         b'p' => is_settable(byte_at(bytes, 0), numbers::four(bytes, 1)),
-        b'q' => has_room(byte_at(bytes, 0) as usize, past(bytes.len(), 1), 64),
+        b'q' => has_room(byte_at(bytes, 0) as usize, past(bytes.len(), 1), FRAME),
         b'b' => byte_at(bytes, 0) <= 1,
         _ => true,
     }

@@ -5,6 +5,8 @@ ghost use lib.ListN.{length};
 
 // As far as the line has been read. `bytes`, lent beside it, holds what it carries.
 pub struct Line {
+    // Which line of the script it is.
+    pub number: u64,
     // A blank while there is none.
     pub letter: u8,
     // The bytes that count; of a text, its characters up to the last that is no blank.
@@ -27,8 +29,9 @@ fn is_blank(c: u8) -> bool {
 }
 
 impl Line {
-    pub fn new() -> Line {
+    pub fn new(number: u64) -> Line {
         Line {
+            number: number,
             letter: b' ',
             len: 0,
             at: 0,

@@ -11,13 +11,15 @@ mod script;
 mod show;
 mod starting;
 
+use store_flash::storage::PAGE_SIZE;
+use wire_frames::frame::FRAME;
+
 fn main() {
     let mut block = io::large_buffer();
     let mut bytes = [0u8; limits::LINE];
-    let mut f = [0u8; 64];
-    let mut page = [0u8; 64];
+    let mut f = [0u8; FRAME];
+    let mut page = [0u8; PAGE_SIZE];
     let mut flash = [0u8; limits::FLASH];
-    let mut record = [0u8; limits::RECORD];
     let mut room = [0u8; limits::ROOM];
     let mut out = io::large_buffer();
     script::run(
@@ -26,7 +28,6 @@ fn main() {
         &mut f,
         &mut page,
         &mut flash,
-        &mut record,
         &mut room,
         &mut out,
     );

@@ -1,24 +1,27 @@
-// The module on the bench: its setup and the numbers of its state. The arrays, the frame's and the page's 64 bytes, flash, record and reply room, are lent
-// beside it, so that no call copies them.
+// The module on the bench: its setup, the numbers of its state and its record. The longer arrays, the frame's and the page's 64 bytes, flash and reply room,
+// are lent beside it, so that no call copies them.
 use crate::limits;
 use crate::numbers;
 use device_start::new_state;
+use device_state::Numbers;
 use device_state::Setup;
 use device_state::State;
 use store_flash::cells::byte_at;
 use store_flash::cells::lay;
+use store_flash::storage::PAGE_SIZE;
+use store_flash::storage::Page;
+use wire_frames::frame::FRAME;
+use wire_frames::frame::FrameBytes;
 use wire_numbers::COMPAT_UNSET;
 ghost use Prim.Native.Nat.{_≤_};
 ghost use Rattle.io.specs.Counts.{Counts};
 
 pub struct Bench {
     pub setup: Setup,
-    pub got: usize,
-    pub fill: usize,
-    pub next: u32,
-    pub selected: bool,
-    pub closed: bool,
-    // How much is lent of each buffer.
+    pub numbers: Numbers,
+    // The record's bytes.
+    pub meta: [u8; limits::RECORD],
+    // How much is lent of each.
     pub flash: usize,
     pub record: usize,
     pub room: usize,
@@ -42,7 +45,7 @@ pub(crate) fn lent(most: usize, buffer: &[u8]) -> usize
 // The setup of a bench that no script has set up yet.
 pub(crate) fn listening() -> Setup {
     Setup {
-        erase_size: 64,
+        erase_size: PAGE_SIZE,
         capacity: 16384,
         id: [0u8; 16],
         id_len: 0,
@@ -83,18 +86,14 @@ fn fill(s: &mut [u8], b: u8) {
 }
 
 // The state is the bench's from now on.
-pub(crate) fn adopted(bench: Bench, state: State, f: &mut [u8; 64], page: &mut [u8; 64]) -> Bench {
+pub(crate) fn adopted(bench: Bench, state: State, f: &mut FrameBytes, page: &mut Page) -> Bench {
     let mut bench = bench;
-    let frame = state.frame;
-    let bytes = frame.bytes;
+    let bytes = state.frame;
     let filled = state.page;
+    let n = state.numbers;
     *f = bytes;
     *page = filled;
-    bench.got = frame.got;
-    bench.fill = state.fill;
-    bench.next = state.next;
-    bench.selected = state.selected;
-    bench.closed = state.closed;
+    bench.numbers = n;
     bench
 }
 
@@ -102,28 +101,25 @@ pub(crate) fn adopted(bench: Bench, state: State, f: &mut [u8; 64], page: &mut [
 pub(crate) fn renewed(
     setup: Setup,
     out: usize,
-    f: &mut [u8; 64],
-    page: &mut [u8; 64],
+    f: &mut FrameBytes,
+    page: &mut Page,
     flash: &mut [u8],
-    record: &mut [u8],
     room: &mut [u8],
 ) -> Bench {
     fill(flash, 0xFF);
-    fill(record, 0xFF);
     fill(room, 0);
+    let state = new_state(false);
+    let n = state.numbers;
+    let meta = [0xFFu8; limits::RECORD];
     let bench = Bench {
         setup: setup,
-        got: 0,
-        fill: 0,
-        next: 0,
-        selected: false,
-        closed: false,
+        numbers: n,
+        meta: meta,
         flash: least(setup.capacity, limits::FLASH),
         record: 12,
-        room: 64,
+        room: FRAME,
         out: out,
     };
-    let state = new_state(false);
     adopted(bench, state, f, page)
 }
 
@@ -135,28 +131,14 @@ pub(crate) fn poke(s: &mut [u8], at: usize, bytes: &[u8]) {
 }
 
 // A number of the state; field 4 is whether the module is open.
-pub(crate) fn set(bench: Bench, field: u8, value: u32) -> Bench {
-    let mut bench = bench;
+pub(crate) fn set(n: Numbers, field: u8, value: u32) -> Numbers {
+    let mut n = n;
     match field {
-        0 => {
-            bench.got = value as usize;
-            bench
-        }
-        1 => {
-            bench.fill = value as usize;
-            bench
-        }
-        2 => {
-            bench.next = value;
-            bench
-        }
-        3 => {
-            bench.selected = value == 1;
-            bench
-        }
-        _ => {
-            bench.closed = value == 0;
-            bench
-        }
+        0 => n.got = value as usize,
+        1 => n.fill = value as usize,
+        2 => n.next = value,
+        3 => n.selected = value == 1,
+        _ => n.closed = value == 0,
     }
+    n
 }

@@ -12,7 +12,10 @@ use crate::starting;
 use store_flash::cells::byte_at;
 use store_flash::cells::first;
 use store_flash::cells::lay;
-ghost use Prim.Native.Nat.{_≤_};
+use store_flash::storage::Page;
+use wire_frames::frame::FrameBytes;
+ghost use mathlib.Core.Path.{_≡_};
+ghost use Prim.Native.Nat.{_≤_, _<_, _+_, _^_};
 ghost use lib.ListN.{length};
 
 // The bytes past the first so many, which a line within its limits has.
@@ -57,16 +60,34 @@ fn number(bench: Bench, letter: u8, bytes: &[u8]) -> Bench {
             bench.room = numbers::two(bytes, 0) as usize;
             bench
         }
-        _ => module::set(bench, byte_at(bytes, 0), numbers::four(bytes, 1)),
+        _ => {
+            let n = bench.numbers;
+            bench.numbers = module::set(n, byte_at(bytes, 0), numbers::four(bytes, 1));
+            bench
+        }
     }
 }
 
+fn recorded(bench: Bench, bytes: &[u8]) -> Bench {
+    let mut bench = bench;
+    let mut meta = bench.meta;
+    lay(&mut meta, bytes);
+    bench.meta = meta;
+    bench
+}
+
 // The lines that store bytes: `f`, `q` and `r`.
-fn store(letter: u8, bytes: &[u8], f: &mut [u8; 64], flash: &mut [u8], record: &mut [u8]) {
+fn store(bench: Bench, letter: u8, bytes: &[u8], f: &mut FrameBytes, flash: &mut [u8]) -> Bench {
     match letter {
-        b'f' => module::poke(flash, numbers::four(bytes, 0) as usize, after(bytes, 4)),
-        b'q' => module::poke(f, byte_at(bytes, 0) as usize, after(bytes, 1)),
-        _ => lay(record, bytes),
+        b'f' => {
+            module::poke(flash, numbers::four(bytes, 0) as usize, after(bytes, 4));
+            bench
+        }
+        b'q' => {
+            module::poke(f, byte_at(bytes, 0) as usize, after(bytes, 1));
+            bench
+        }
+        _ => recorded(bench, bytes),
     }
 }
 
@@ -75,21 +96,20 @@ fn drive(
     bench: Bench,
     letter: u8,
     bytes: &[u8],
-    f: &mut [u8; 64],
-    page: &mut [u8; 64],
+    f: &mut FrameBytes,
+    page: &mut Page,
     flash: &mut [u8],
-    record: &mut [u8],
     room: &mut [u8],
     out: &mut [u8],
 ) -> Bench {
     match letter {
         b's' => {
             let setup = module::setup_of(bytes);
-            module::renewed(setup, bench.out, f, page, flash, record, room)
+            module::renewed(setup, bench.out, f, page, flash, room)
         }
-        b'b' => starting::begin(bench, byte_at(bytes, 0), f, page, flash, record, out),
-        b'o' => feeding::once(bench, bytes, f, page, flash, record, room, out),
-        _ => feeding::all(bench, bytes, f, page, flash, record, room, out),
+        b'b' => starting::begin(bench, byte_at(bytes, 0), f, page, flash, out),
+        b'o' => feeding::once(bench, bytes, f, page, flash, room, out),
+        _ => feeding::all(bench, bytes, f, page, flash, room, out),
     }
 }
 
@@ -98,22 +118,18 @@ fn act(
     bench: Bench,
     letter: u8,
     bytes: &[u8],
-    f: &mut [u8; 64],
-    page: &mut [u8; 64],
+    f: &mut FrameBytes,
+    page: &mut Page,
     flash: &mut [u8],
-    record: &mut [u8],
     room: &mut [u8],
     out: &mut [u8],
 ) -> Bench {
     match letter {
         b'n' | b'c' | b'm' | b'p' => number(bench, letter, bytes),
-        b'f' | b'r' | b'q' => {
-            store(letter, bytes, f, flash, record);
-            bench
-        }
-        b'd' => dump::dump(bench, f, flash, record, room, out),
+        b'f' | b'r' | b'q' => store(bench, letter, bytes, f, flash),
+        b'd' => dump::dump(bench, f, flash, room, out),
         b't' => say(bench, bytes, out),
-        _ => drive(bench, letter, bytes, f, page, flash, record, room, out),
+        _ => drive(bench, letter, bytes, f, page, flash, room, out),
     }
 }
 
@@ -121,12 +137,10 @@ fn act(
 fn obey(
     bench: Bench,
     line: Line,
-    number: u64,
     bytes: &[u8],
-    f: &mut [u8; 64],
-    page: &mut [u8; 64],
+    f: &mut FrameBytes,
+    page: &mut Page,
     flash: &mut [u8],
-    record: &mut [u8],
     room: &mut [u8],
     out: &mut [u8],
 ) -> Bench {
@@ -136,17 +150,18 @@ fn obey(
         return bench;
     }
     if line.is_bad() {
-        return refuse(bench, number, out);
+        return refuse(bench, line.number, out);
     }
     if limits::is_allowed(letter, carried) {
-        return act(bench, letter, carried, f, page, flash, record, room, out);
+        return act(bench, letter, carried, f, page, flash, room, out);
     }
-    refuse(bench, number, out)
+    refuse(bench, line.number, out)
 }
 
-// The bench after a line, with what is unread of the block, and whether that was the last.
+// The script between two lines: the bench, how many lines have been read, what is unread of the block, and whether that was the last.
 struct Turned {
     bench: Bench,
+    lines: u64,
     at: usize,
     end: usize,
     last: bool,
@@ -162,91 +177,80 @@ fn shown(bench: Bench, waits: bool, out: &[u8]) -> Bench {
     bench
 }
 
-// Line n, read and obeyed.
+// The place in the output.
+fn printed(s: Turned) -> usize {
+    let bench = s.bench;
+    bench.out
+}
+
+// The next line, read and obeyed.
 fn turn(
-    bench: Bench,
-    n: u64,
+    s: Turned,
     block: &mut [u8],
-    at: usize,
-    end: usize,
     bytes: &mut [u8],
-    f: &mut [u8; 64],
-    page: &mut [u8; 64],
+    f: &mut FrameBytes,
+    page: &mut Page,
     flash: &mut [u8],
-    record: &mut [u8],
     room: &mut [u8],
     out: &mut [u8],
 ) -> Turned
-    requires { ⌜ (at ≤ end) × (end ≤ length (now block)) ⌝ }
-    ensures { λ r. ⌜ (r .at ≤ r .end) × (r .end ≤ length (now (block .exit))) ⌝ }
+    requires { ⌜ (s .at ≤ s .end) × (s .end ≤ length (now block)) × (s .lines + 1 < 2 ^ 64) ⌝ }
+    ensures { λ r. ⌜ (r .at ≤ r .end) × (r .end ≤ length (now (block .exit))) × (r .lines ≡ s .lines + 1) ⌝ }
 {
-    let t = input::next(block, at, end, bytes);
+    let bench = s.bench;
+    let number = s.lines + 1;
+    let t = input::next(number, block, s.at, s.end, bytes);
     let line = t.line;
-    let after = obey(bench, line, n, bytes, f, page, flash, record, room, out);
+    let after = obey(bench, line, bytes, f, page, flash, room, out);
     let bench = shown(after, t.at == t.end, out);
     Turned {
         bench: bench,
+        lines: number,
         at: t.at,
         end: t.end,
         last: t.last,
     }
 }
 
-// The lines of the script, and the place in the output after them. They are counted, and the count ends the loop where no input does.
+// The lines of the script, and the place in the output after them. Their count ends the loop where no input does.
 fn lines(
     bench: Bench,
     block: &mut [u8],
     bytes: &mut [u8],
-    f: &mut [u8; 64],
-    page: &mut [u8; 64],
+    f: &mut FrameBytes,
+    page: &mut Page,
     flash: &mut [u8],
-    record: &mut [u8],
     room: &mut [u8],
     out: &mut [u8],
 ) -> usize {
-    let mut bench = bench;
-    let mut at: usize = 0;
-    let mut end: usize = 0;
-    let mut number: u64 = 0;
-    while number < u64::MAX {
-        number += 1;
-        let t = turn(
-            bench,
-            number,
-            block,
-            at,
-            end,
-            bytes,
-            f,
-            page,
-            flash,
-            record,
-            room,
-            out,
-        );
-        bench = t.bench;
-        at = t.at;
-        end = t.end;
-        if t.last {
-            return bench.out;
+    let mut s = Turned {
+        bench: bench,
+        lines: 0,
+        at: 0,
+        end: 0,
+        last: false,
+    };
+    while s.lines < u64::MAX {
+        s = turn(s, block, bytes, f, page, flash, room, out);
+        if s.last {
+            return printed(s);
         }
     }
-    bench.out
+    printed(s)
 }
 
 // The whole script, on buffers that the caller lends.
 pub(crate) fn run(
     block: &mut [u8],
     bytes: &mut [u8],
-    f: &mut [u8; 64],
-    page: &mut [u8; 64],
+    f: &mut FrameBytes,
+    page: &mut Page,
     flash: &mut [u8],
-    record: &mut [u8],
     room: &mut [u8],
     out: &mut [u8],
 ) {
     let setup = module::listening();
-    let bench = module::renewed(setup, 0, f, page, flash, record, room);
-    let at = lines(bench, block, bytes, f, page, flash, record, room, out);
+    let bench = module::renewed(setup, 0, f, page, flash, room);
+    let at = lines(bench, block, bytes, f, page, flash, room, out);
     show::flush(out, at);
 }

@@ -1,4 +1,5 @@
-// What is printed is collected in a buffer, and written where that is full, before more input is waited for, and at the end. `at` is the place of the next byte.
+// What is printed is collected in a buffer, and written where that is full, before more input is waited for, and at the end. `at` is the place of the next
+// byte.
 use crate::digits;
 use libc::STDOUT_FILENO;
 

@@ -4,26 +4,11 @@ use crate::module::Bench;
 use crate::show;
 use device_start::Started;
 use device_start::start;
-use device_state::refusal::Refusal;
+use device_state::refusal::refusal_number;
 use store_flash::cells::first;
+use store_flash::storage::Page;
+use wire_frames::frame::FrameBytes;
 use wire_numbers::RunMode;
-ghost use mathlib.Core.Path.{_≡_};
-ghost use Rattle.device_state.specs.Refusals.{refusalNumber};
-
-// A refusal by its number; 0 for none.
-fn number(refusal: Refusal) -> u64
-    ensures { λ r. ⌜ r ≡ refusalNumber refusal ⌝ }
-{
-    match refusal {
-        Refusal::None => 0,
-        Refusal::BadSetup => 10,
-        Refusal::BadState => 11,
-        Refusal::BadFlash => 12,
-        Refusal::BadRecord => 13,
-        Refusal::NoRoom => 14,
-        Refusal::Closed => 15,
-    }
-}
 
 fn mode_of(b: u8) -> RunMode {
     if b == 0 {
@@ -54,31 +39,32 @@ fn tell(out: &mut [u8], at: usize, refused: u64, decision: RunMode) -> usize {
 }
 
 // The call, on what is lent.
-fn started(bench: Bench, asked: u8, flash: &[u8], record: &mut [u8]) -> Started {
+fn started(bench: Bench, asked: u8, flash: &[u8], meta: &mut [u8]) -> Started {
     let setup = bench.setup;
-    let n = module::lent(bench.record, record);
+    let n = module::lent(bench.record, meta);
     start(
         setup,
         mode_of(asked),
         first(flash, bench.flash),
-        &mut record[..n],
+        &mut meta[..n],
     )
 }
 
 pub(crate) fn begin(
     bench: Bench,
     asked: u8,
-    f: &mut [u8; 64],
-    page: &mut [u8; 64],
+    f: &mut FrameBytes,
+    page: &mut Page,
     flash: &[u8],
-    record: &mut [u8],
     out: &mut [u8],
 ) -> Bench {
     let mut bench = bench;
-    let s = started(bench, asked, flash, record);
+    let mut meta = bench.meta;
+    let s = started(bench, asked, flash, &mut meta);
     let refusal = s.refusal;
     let decision = s.mode;
-    let at = tell(out, bench.out, number(refusal), decision);
+    let at = tell(out, bench.out, refusal_number(refusal) as u64, decision);
+    bench.meta = meta;
     bench.out = at;
     let state = s.state;
     module::adopted(bench, state, f, page)

@@ -5,13 +5,14 @@ use mathlib.Core.Bool.{Bool, true, false, _&&_}
 use mathlib.Core.List.{List, [], _∷_, _++_}
 use lib.ListN.{length, getD, take, drop}
 use lib.Dec.{eqb, ltb}
-use Rattle.laws.specs.Pick.{pick}
+use Rattle.laws.specs.Pick.{if_then_else_}
 use Rattle.laws.specs.Low.{lowFirst, lowBytes}
 use Rattle.laws.specs.Over.{over}
 use Rattle.device_state.specs.declared.Setup.{Setup}
+use Rattle.device_state.specs.declared.Numbers.{Numbers}
 use Rattle.device_state.specs.declared.State.{State}
+use Rattle.device_state.specs.State.{stateWith, numbered}
 use Rattle.device_replies.specs.Answers.{Told}
-use Rattle.device_state.specs.State.{stateWith}
 
 -- so many bytes from a place on
 abbrev pub part : ℕ → ℕ → List ℕ → List ℕ
@@ -45,29 +46,33 @@ setupFrom l =
 
 -- a flag's byte
 abbrev pub flagByte : Bool → ℕ
-flagByte b = pick b 1 0
+flagByte b = if b then 1 else 0
 
 -- bytes that are a state's: as many, and each flag 0 or 1
 unfoldable pub holdsState : ℕ → ℕ → List ℕ → Bool
 holdsState cap page l =
     eqb (length l) (stateSize cap page) && (ltb (getD l (numbersAt cap page + 6) 0) 2 && ltb (getD l (numbersAt cap page + 7) 0) 2)
 
--- the state that these bytes stand for: the frame's, the page's, next, got, fill, selected, closed
+-- the numbers that a state's bytes stand for: behind next, which has four, stand got, fill, selected and closed
+abbrev pub numbersFrom : ℕ → ℕ → List ℕ → Numbers
+numbersFrom cap page l =
+    numbered (getD l (numbersAt cap page + 4) 0) (getD l (numbersAt cap page + 5) 0) (lowFirst (part (numbersAt cap page) 4 l))
+    (eqb (getD l (numbersAt cap page + 6) 0) 1) (eqb (getD l (numbersAt cap page + 7) 0) 1)
+
+-- the state that these bytes stand for: the frame's, the page's, the numbers'
 abbrev pub stateFrom : ℕ → ℕ → List ℕ → State
-stateFrom cap page l =
-    stateWith (part 0 (12 + cap) l) (getD l (numbersAt cap page + 4) 0) (part (12 + cap) page l) (getD l (numbersAt cap page + 5) 0)
-    (lowFirst (part (numbersAt cap page) 4 l)) (eqb (getD l (numbersAt cap page + 6) 0) 1) (eqb (getD l (numbersAt cap page + 7) 0) 1)
+stateFrom cap page l = stateWith (part 0 (12 + cap) l) (part (12 + cap) page l) (numbersFrom cap page l)
 
 -- a state's numbers, in 8 bytes: of got and fill the low byte, which in a well-formed state is all of them
-abbrev pub numberBytes : ℕ → ℕ → ℕ → Bool → Bool → List ℕ
-numberBytes got fill next selected closed = lowBytes 4 next ++ (got % 256 ∷ fill % 256 ∷ flagByte selected ∷ flagByte closed ∷ [])
+abbrev pub numberBytes : Numbers → List ℕ
+numberBytes n = lowBytes 4 (n .next) ++ (n .got % 256 ∷ n .fill % 256 ∷ flagByte (n .selected) ∷ flagByte (n .closed) ∷ [])
 
 -- the bytes of a state: the frame's, the page's, the numbers'
 abbrev pub partBytes : List ℕ → List ℕ → List ℕ → List ℕ
 partBytes f page numbers = f ++ (page ++ numbers)
 
 abbrev pub stateBytes : State → List ℕ
-stateBytes s = partBytes (s .frame .bytes) (s .page) (numberBytes (s .frame .got) (s .fill) (s .next) (s .selected) (s .closed))
+stateBytes s = partBytes (s .frame) (s .page) (numberBytes (s .numbers))
 
 -- the 16 bytes of an answer: its number, its mode, the reply's length, the wait before it, how many bytes were taken
 abbrev pub answerBytes : Told → ℕ → List ℕ
@@ -75,4 +80,4 @@ answerBytes t taken = t .number ∷ t .mode ∷ (lowBytes 2 (t .len) ++ (lowByte
 
 -- an answer in its buffer: the first 16 bytes; a buffer that has fewer stays as it is
 abbrev pub answered : Told → ℕ → List ℕ → List ℕ
-answered t taken answer = pick (ltb (length answer) answerSize) answer (over (answerBytes t taken) answer)
+answered t taken answer = if ltb (length answer) answerSize then answer else over (answerBytes t taken) answer

@@ -2,17 +2,38 @@
 // interface.
 
 use device_replies::Answer;
+use device_state::Numbers;
 use device_state::refusal::Refusal;
+use device_state::refusal::refusal_number;
+use store_flash::storage::PAGE_SIZE;
+use wire_frames::frame::FRAME;
 use wire_numbers::RunMode;
 ghost use mathlib.Core.Path.{_≡_};
 ghost use lib.Dec.{eqb};
 ghost use lib.ListN.{length};
 ghost use Rattle.wire_numbers.specs.Names.{modeNumber};
-ghost use Rattle.device_state.specs.Refusals.{refusalNumber};
 ghost use Rattle.device_start.specs.Starts.{newState};
 ghost use Rattle.device_replies.specs.Answers.{mute, toldOf};
 ghost use Rattle.c_layout.specs.Layout.{setupSize, holdsState, flagByte, numberBytes, stateBytes, answerBytes, answered};
 ghost use Rattle.c_layout.specs.Inner.{toldBy};
+
+// How many bytes a setup, a state and an answer take.
+pub const SETUP_SIZE: usize = 31;
+
+pub const STATE_SIZE: usize = NEXT + 8;
+
+pub const ANSWER_SIZE: usize = 16;
+
+// Where a state's numbers stand: behind its frame and its page.
+pub const NEXT: usize = FRAME + PAGE_SIZE;
+
+pub const GOT: usize = NEXT + 4;
+
+pub const FILL: usize = NEXT + 5;
+
+pub const SELECTED: usize = NEXT + 6;
+
+pub const CLOSED: usize = NEXT + 7;
 
 // What a call says.
 pub struct Said {
@@ -26,20 +47,20 @@ pub struct Said {
 pub fn holds_setup(setup: &[u8]) -> bool
     ensures { λ r. ⌜ r ≡ eqb (length (now (setup .entry))) setupSize ⌝ }
 {
-    setup.len() == 31
+    setup.len() == SETUP_SIZE
 }
 
 // Whether these bytes are a state's: as many, and flags that are 0 or 1.
 pub fn holds_state(state: &[u8]) -> bool
     ensures { λ r. ⌜ r ≡ holdsState 52 64 (now (state .entry)) ⌝ }
 {
-    if state.len() != 136 {
+    if state.len() != STATE_SIZE {
         return false;
     }
-    if 2 <= state[134] {
+    if 2 <= state[SELECTED] {
         return false;
     }
-    state[135] < 2
+    state[CLOSED] < 2
 }
 
 fn flag(b: bool) -> u8
@@ -49,33 +70,33 @@ fn flag(b: bool) -> u8
 }
 
 // What a state has beside its arrays, in 8 bytes.
-pub fn number_bytes(got: usize, fill: usize, next: u32, selected: bool, closed: bool) -> [u8; 8]
-    ensures { λ r. ⌜ r ≡ numberBytes got fill next selected closed ⌝ }
+pub fn number_bytes(n: Numbers) -> [u8; 8]
+    ensures { λ r. ⌜ r ≡ numberBytes n ⌝ }
 {
     [
-        (next % 256) as u8,
-        (next / 256 % 256) as u8,
-        (next / 256 / 256 % 256) as u8,
-        (next / 256 / 256 / 256 % 256) as u8,
-        (got % 256) as u8,
-        (fill % 256) as u8,
-        flag(selected),
-        flag(closed),
+        (n.next % 256) as u8,
+        (n.next / 256 % 256) as u8,
+        (n.next / 256 / 256 % 256) as u8,
+        (n.next / 256 / 256 / 256 % 256) as u8,
+        (n.got % 256) as u8,
+        (n.fill % 256) as u8,
+        flag(n.selected),
+        flag(n.closed),
     ]
 }
 
 // The bytes of a new state: AA 55 in an empty frame, an empty page, and no write pending.
-pub fn new_bytes(closed: bool) -> [u8; 136]
+pub fn new_bytes(closed: bool) -> [u8; STATE_SIZE]
     ensures { λ r. ⌜ r ≡ stateBytes (newState 52 64 closed) ⌝ }
 {
-    let mut new = [0u8; 136];
+    let mut new = [0u8; STATE_SIZE];
     new[0] = 0xAA;
     new[1] = 0x55;
-    new[128] = 0xFF;
-    new[129] = 0xFF;
-    new[130] = 0xFF;
-    new[131] = 0xFF;
-    new[135] = flag(closed);
+    new[NEXT] = 0xFF;
+    new[NEXT + 1] = 0xFF;
+    new[NEXT + 2] = 0xFF;
+    new[NEXT + 3] = 0xFF;
+    new[CLOSED] = flag(closed);
     new
 }
 
@@ -87,20 +108,6 @@ pub fn unsaid(number: u8) -> Said
         mode: 1,
         len: 0,
         wait: 0,
-    }
-}
-
-pub fn refusal_number(refusal: Refusal) -> u8
-    ensures { λ r. ⌜ r ≡ refusalNumber refusal ⌝ }
-{
-    match refusal {
-        Refusal::None => 0,
-        Refusal::BadSetup => 10,
-        Refusal::BadState => 11,
-        Refusal::BadFlash => 12,
-        Refusal::BadRecord => 13,
-        Refusal::NoRoom => 14,
-        Refusal::Closed => 15,
     }
 }
 
@@ -131,17 +138,17 @@ pub fn numbers_of(answer: Answer) -> Said
             len: len,
             wait: 0,
         },
-        Answer::BadSetup => unsaid(10),
-        Answer::BadState => unsaid(11),
-        Answer::BadFlash => unsaid(12),
-        Answer::BadRecord => unsaid(13),
-        Answer::NoRoom => unsaid(14),
-        Answer::Closed => unsaid(15),
+        Answer::BadSetup => unsaid(refusal_number(Refusal::BadSetup)),
+        Answer::BadState => unsaid(refusal_number(Refusal::BadState)),
+        Answer::BadFlash => unsaid(refusal_number(Refusal::BadFlash)),
+        Answer::BadRecord => unsaid(refusal_number(Refusal::BadRecord)),
+        Answer::NoRoom => unsaid(refusal_number(Refusal::NoRoom)),
+        Answer::Closed => unsaid(refusal_number(Refusal::Closed)),
     }
 }
 
 // An answer's 16 bytes.
-fn answer_bytes(said: Said, taken: usize) -> [u8; 16]
+fn answer_bytes(said: Said, taken: usize) -> [u8; ANSWER_SIZE]
     ensures { λ r. ⌜ r ≡ answerBytes (toldBy said) taken ⌝ }
 {
     [
@@ -168,7 +175,7 @@ fn answer_bytes(said: Said, taken: usize) -> [u8; 16]
 pub fn lay_answer(a: &mut [u8], said: Said, taken: usize) -> u8
     ensures { λ r. ⌜ (r ≡ said .number) × (now (a .exit) ≡ answered (toldBy said) taken (now (a .entry))) ⌝ }
 {
-    if a.len() < 16 {
+    if a.len() < ANSWER_SIZE {
         return said.number;
     }
     let new = answer_bytes(said, taken);

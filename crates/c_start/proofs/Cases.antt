@@ -1,10 +1,10 @@
 -- The cases of a start and of a new state.
 use Prim.Native.Nat.{ℕ, _<_, _≤_}
 use mathlib.Core.Path.{_≡_, refl, ap, sym, _∙_}
-use mathlib.Core.Bool.{Bool, true, false}
+use mathlib.Core.Bool.{Bool, true, false, not}
 use mathlib.Core.List.{List}
 use lib.ListN.{length}
-use lib.Dec.{eqb, ltb}
+use lib.Dec.{eqb}
 use borrow.Author.Tests.{eq-eqb, ne-eqb, lt-ltb, le-ltb}
 use Rattle.laws.specs.Pick.{pick}
 use Rattle.laws.specs.Over.{over}
@@ -13,7 +13,7 @@ use Rattle.wire_frames.specs.Stored.{wellOf}
 use Rattle.device_state.specs.declared.Setup.{Setup}
 use Rattle.device_state.specs.Refusals.{setUp, runFits, wellFormed, lengthsOf, refusalOf}
 use Rattle.device_boot.specs.Start.{Decision, startOf}
-use Rattle.device_start.specs.Starts.{Left, left, decidedTo, newState, startRefusal, startedOf}
+use Rattle.device_start.specs.Starts.{Booted, left, decidedTo, newState, startRefusal, startedOf}
 use Rattle.device_replies.specs.Answers.{mute}
 use Rattle.c_layout.specs.Layout.{stateBytes, answerBytes}
 use Rattle.c_start.specs.Start as Calls
@@ -21,21 +21,21 @@ use Rattle.c_layout.proofs.Answering.{answer-short}
 
 pub new-refused : (s : List ℕ) → (length s ≡ 136 → ⊥) → Calls.afterNew 11 s ≡ Calls.cNew 52 64 s
 unfolding Calls.cNew
-new-refused s h = no (eqb (length s) 136) (Calls.afterNew 0 (stateBytes (newState 52 64 false))) (Calls.afterNew 11 s) (ne-eqb (length s) 136 h)
+new-refused s h = simp (ne-eqb (length s) 136 h)
 
 pub new-laid : (s : List ℕ) → length s ≡ 136 → Calls.afterNew 0 (stateBytes (newState 52 64 false)) ≡ Calls.cNew 52 64 s
 unfolding Calls.cNew
-new-laid s h = yes (eqb (length s) 136) (Calls.afterNew 0 (stateBytes (newState 52 64 false))) (Calls.afterNew 11 s) (eq-eqb (length s) 136 h)
+new-laid s h = simp (eq-eqb (length s) 136 h)
 
 -- what the code of a start leaves: a new state, or the one that stood there
-module _ (x y : Left) (e : x ≡ y) (s answer : List ℕ) (r : ℕ) (k : r ≡ x .answer) (a : List ℕ)
+module _ (x y : Booted) (e : x ≡ y) (s answer : List ℕ) (r : ℕ) (k : r ≡ x .answer) (a : List ℕ)
     (ka : a ≡ over (answerBytes (Calls.startTold (x .answer) (x .mode)) 0) answer) where
   said : (z : List ℕ) → z ≡ pick (eqb (x .answer) 0) (stateBytes (x .state)) s → Calls.afterStart r z (x .meta) a ≡ Calls.startCalled y s answer
   said z kz =
       ap (λ (v : ℕ). Calls.afterStart v z (x .meta) a) k ∙
       ap (λ (v : List ℕ). Calls.afterStart (x .answer) v (x .meta) a) kz ∙
       ap (λ (v : List ℕ). Calls.afterStart (x .answer) (pick (eqb (x .answer) 0) (stateBytes (x .state)) s) (x .meta) v) ka ∙
-      ap (λ (v : Left). Calls.startCalled v s answer) e
+      ap (λ (v : Booted). Calls.startCalled v s answer) e
 
   pub start-laid : (z : List ℕ) → z ≡ stateBytes (x .state) → eqb (x .answer) 0 ≡ true → Calls.afterStart r z (x .meta) a ≡ Calls.startCalled y s answer
   start-laid z kz t = said z (kz ∙ yes (eqb (x .answer) 0) (stateBytes (x .state)) s t)
@@ -45,20 +45,20 @@ module _ (x y : Left) (e : x ≡ y) (s answer : List ℕ) (r : ℕ) (k : r ≡ x
 
 -- a start leaves a new state, open or closed
 pub new-always : (cap page : ℕ) (s : Setup) (mode : ℕ) (flash meta : List ℕ) →
-    startedOf cap page s mode flash meta .state ≡ newState cap page (startedOf cap page s mode flash meta .state .closed)
+    startedOf cap page s mode flash meta .state ≡ newState cap page (startedOf cap page s mode flash meta .state .numbers .closed)
 unfolding startedOf
 new-always cap page s mode flash meta =
     go (eqb (startRefusal page s (length flash) (length meta)) 0) (startOf (s .capacity) mode flash meta) (startRefusal page s (length flash) (length meta))
   where
     go : (t : Bool) (d : Decision) (n : ℕ) → pick t (decidedTo cap page d) (left cap page n 1 true meta) .state ≡
-        newState cap page (pick t (decidedTo cap page d) (left cap page n 1 true meta) .state .closed)
+        newState cap page (pick t (decidedTo cap page d) (left cap page n 1 true meta) .state .numbers .closed)
     go true d n = refl
     go false d n = refl
 
-pub new-started : (x : Left) (cap page : ℕ) (s : Setup) (mode : ℕ) (flash meta : List ℕ) → x ≡ startedOf cap page s mode flash meta →
-    newState cap page (x .state .closed) ≡ x .state
+pub new-started : (x : Booted) (cap page : ℕ) (s : Setup) (mode : ℕ) (flash meta : List ℕ) → x ≡ startedOf cap page s mode flash meta →
+    newState cap page (x .state .numbers .closed) ≡ x .state
 new-started x cap page s mode flash meta e =
-    ap (λ (v : Left). newState cap page (v .state .closed)) e ∙ sym (new-always cap page s mode flash meta) ∙ ap (λ (v : Left). v .state) (sym e)
+    ap (λ (v : Booted). newState cap page (v .state .numbers .closed)) e ∙ sym (new-always cap page s mode flash meta) ∙ ap (λ (v : Booted). v .state) (sym e)
 
 pub asked-app : (m : ℕ) → m ≡ 0 → 0 ≡ Calls.asked m
 asked-app m e = yes (eqb m 0) 0 1 (eq-eqb m 0 e)
@@ -67,23 +67,22 @@ pub asked-service : (m : ℕ) → (m ≡ 0 → ⊥) → 1 ≡ Calls.asked m
 asked-service m h = no (eqb m 0) 0 1 (ne-eqb m 0 h)
 
 -- with no room a new state is refused as a start is, or for the room
-in-order : (a b c : Bool) → pick a (pick b (pick c 14 13) 12) 10 ≡ Calls.orNoRoom (pick a (pick b (pick c 0 13) 12) 10)
+in-order : (a b c : Bool) → pick (not a) 10 (pick (not b) 12 (pick (not c) 13 14)) ≡ Calls.orNoRoom (pick (not a) 10 (pick (not b) 12 (pick (not c) 13 0)))
 in-order true true true = refl
 in-order true true false = refl
 in-order true false c = refl
 in-order false b c = refl
 
-well-new : (capacity : ℕ) (f : List ℕ) → wellFormed 52 64 capacity f 0 0 0xFFFFFFFF ≡ true
+well-new : (s : Setup) (f : List ℕ) → wellFormed 52 64 s f (newState 52 64 false .numbers) ≡ true
 unfolding wellFormed runFits wellOf
-well-new capacity f = refl
+well-new s f = refl
 
 pub roomless-new : (s : Setup) (f : List ℕ) (flash meta : ℕ) →
-    refusalOf 52 64 s f 0 0 0xFFFFFFFF false flash meta 0 ≡ Calls.orNoRoom (startRefusal 64 s flash meta)
+    refusalOf 52 64 s f (newState 52 64 false .numbers) flash meta 0 ≡ Calls.orNoRoom (startRefusal 64 s flash meta)
 unfolding refusalOf startRefusal lengthsOf
 roomless-new s f flash meta =
-    let up : Bool = setUp 64 (s .«erase_size») (s .capacity) (s .«id_len») in
-    ap (λ (v : Bool). pick up (pick v (pick (eqb flash (s .capacity)) (pick (eqb meta 12) 14 13) 12) 11) 10) (well-new (s .capacity) f) ∙
-    in-order up (eqb flash (s .capacity)) (eqb meta 12)
+    let rest : ℕ = pick (not (eqb flash (s .capacity))) 12 (pick (not (eqb meta 12)) 13 14) in
+    ap (λ (v : Bool). pick (not (setUp 64 s)) 10 (pick (not v) 11 rest)) (well-new s f) ∙ in-order (setUp 64 s) (eqb flash (s .capacity)) (eqb meta 12)
 
 module _ (mode : ℕ) (s : Setup) (state flash meta answer : List ℕ) where
   abbrev unstarted : ℕ → Calls.AfterStart
@@ -92,27 +91,22 @@ module _ (mode : ℕ) (s : Setup) (state flash meta answer : List ℕ) where
   abbrev begun : Calls.AfterStart
   begun = Calls.startCalled (startedOf 52 64 s (Calls.asked mode) flash meta) state answer
 
-  abbrev unanswered : Calls.AfterStart
-  unanswered = unstarted (Calls.orNoRoom (startRefusal 64 s (length flash) (length meta)))
-
   abbrev all : Calls.AfterStart
   all = Calls.startIn 52 64 mode s state flash meta answer
 
   pub start-no-state : (length state ≡ 136 → ⊥) → unstarted 11 ≡ all
   unfolding Calls.startIn
-  start-no-state k = no (eqb (length state) 136) (pick (ltb (length answer) 16) unanswered begun) (unstarted 11) (ne-eqb (length state) 136 k)
+  start-no-state k = simp (ne-eqb (length state) 136 k)
 
-  sized : length state ≡ 136 → (x : Calls.AfterStart) → x ≡ pick (ltb (length answer) 16) unanswered begun → x ≡ all
-  unfolding Calls.startIn
-  sized k x e = e ∙ yes (eqb (length state) 136) (pick (ltb (length answer) 16) unanswered begun) (unstarted 11) (eq-eqb (length state) 136 k)
-
-  pub start-short : length state ≡ 136 → (q : length answer < 16) → (r : ℕ) →
+  pub start-short : length state ≡ 136 → length answer < 16 → (r : ℕ) →
       r ≡ Calls.orNoRoom (startRefusal 64 s (length flash) (length meta)) → Calls.afterStart r state meta answer ≡ all
+  unfolding Calls.startIn
   start-short k q r e =
       let number : ℕ = Calls.orNoRoom (startRefusal 64 s (length flash) (length meta)) in
+      let w : unstarted number ≡ all = simp (eq-eqb (length state) 136 k, lt-ltb (length answer) 16 q) in
       ap (λ (v : ℕ). Calls.afterStart v state meta answer) e ∙
-      ap (λ (v : List ℕ). Calls.afterStart number state meta v) (answer-short (mute number) 0 answer q) ∙
-      sized k unanswered (yes (ltb (length answer) 16) unanswered begun (lt-ltb (length answer) 16 q))
+      ap (λ (v : List ℕ). Calls.afterStart number state meta v) (answer-short (mute number) 0 answer q) ∙ w
 
   pub start-called : length state ≡ 136 → 16 ≤ length answer → (x : Calls.AfterStart) → x ≡ begun → x ≡ all
-  start-called k q x e = e ∙ sized k begun (no (ltb (length answer) 16) unanswered begun (le-ltb (length answer) 16 q))
+  unfolding Calls.startIn
+  start-called k q x e = e ∙ simp (eq-eqb (length state) 136 k, le-ltb (length answer) 16 q)

@@ -1,15 +1,20 @@
 // A start of a setup by value on a C program's state, record and answer; and a new state. Ours: the Rust has no such interface.
 
+use c_layout::ANSWER_SIZE;
+use c_layout::STATE_SIZE;
 use c_layout::Said;
 use c_layout::lay_answer;
 use c_layout::mode_number;
 use c_layout::new_bytes;
-use c_layout::refusal_number;
 use c_layout::refuse;
 use device_start::start;
+use device_state::Numbers;
 use device_state::Setup;
 use device_state::refusal::Refusal;
+use device_state::refusal::refusal_number;
 use device_state::refusal::refuses;
+use store_flash::storage::NONE_PENDING;
+use wire_frames::frame::FRAME;
 use wire_numbers::RunMode;
 ghost use mathlib.Core.Path.{_≡_};
 ghost use Prim.Native.Nat.{_≤_};
@@ -17,13 +22,13 @@ ghost use lib.ListN.{length};
 ghost use Rattle.wire_numbers.specs.Names.{modeNumber};
 ghost use Rattle.laws.specs.Over.{over};
 ghost use Rattle.device_state.specs.Refusals.{refusalNumber};
-ghost use Rattle.c_layout.specs.Layout.{stateBytes, answerBytes};
+ghost use Rattle.c_layout.specs.Layout.{stateSize, answerSize, stateBytes, answerBytes};
 ghost use Rattle.device_start.specs.Starts.{newState, startRefusal, startedOf};
 ghost use Rattle.c_start.specs.Start.{afterNew, cNew, asked, startTold, orNoRoom, afterStart, startCalled, startIn};
 
 // A new state, laid over bytes that are as many as a state's.
 fn lay_new(s: &mut [u8], closed: bool)
-    requires { ⌜ length (now s) ≡ 136 ⌝ }
+    requires { ⌜ length (now s) ≡ stateSize 52 64 ⌝ }
     ensures { λ r. ⌜ now (s .exit) ≡ stateBytes (newState 52 64 closed) ⌝ }
 {
     let new = new_bytes(closed);
@@ -34,8 +39,8 @@ fn lay_new(s: &mut [u8], closed: bool)
 pub fn new_in(state: &mut [u8]) -> u8
     ensures { λ r. ⌜ afterNew r (now (state .exit)) ≡ cNew 52 64 (now (state .entry)) ⌝ }
 {
-    if state.len() != 136 {
-        return 11;
+    if state.len() != STATE_SIZE {
+        return refusal_number(Refusal::BadState);
     }
     lay_new(state, false);
     0
@@ -54,13 +59,20 @@ fn mode_of(mode: u8) -> RunMode
 fn unanswered(setup: Setup, flash: usize, meta: usize) -> u8
     ensures { λ r. ⌜ r ≡ orNoRoom (startRefusal 64 setup flash meta) ⌝ }
 {
-    let f = [0u8; 64];
-    refusal_number(refuses(setup, &f, 0, 0, 0xFFFF_FFFF, false, flash, meta, 0))
+    let f = [0u8; FRAME];
+    let n = Numbers {
+        got: 0,
+        fill: 0,
+        next: NONE_PENDING,
+        selected: false,
+        closed: false,
+    };
+    refusal_number(refuses(setup, &f, n, flash, meta, 0))
 }
 
 // A start's answer has no reply.
 fn lay_start(a: &mut [u8], refusal: Refusal, mode: RunMode) -> u8
-    requires { ⌜ 16 ≤ length (now a) ⌝ }
+    requires { ⌜ answerSize ≤ length (now a) ⌝ }
     ensures { λ r. ⌜ (r ≡ refusalNumber refusal) ×
         (now (a .exit) ≡ over (answerBytes (startTold (refusalNumber refusal) (modeNumber mode)) 0) (now (a .entry))) ⌝ }
 {
@@ -81,8 +93,8 @@ fn started(
     meta: &mut [u8],
     answer: &mut [u8],
 ) -> u8
-    requires { ⌜ length (now state) ≡ 136 ⌝ }
-    requires { ⌜ 16 ≤ length (now answer) ⌝ }
+    requires { ⌜ length (now state) ≡ stateSize 52 64 ⌝ }
+    requires { ⌜ answerSize ≤ length (now answer) ⌝ }
     ensures { λ r. ⌜ afterStart r (now (state .exit)) (now (meta .exit)) (now (answer .exit)) ≡
         startCalled (startedOf 52 64 setup (asked mode) (now (flash .entry)) (now (meta .entry))) (now (state .entry)) (now (answer .entry)) ⌝ }
 {
@@ -91,7 +103,7 @@ fn started(
     let decision = s.mode;
     if refusal.is_none() {
         let new = s.state;
-        lay_new(state, new.closed);
+        lay_new(state, new.numbers.closed);
         return lay_start(answer, refusal, decision);
     }
     lay_start(answer, refusal, decision)
@@ -109,10 +121,10 @@ pub fn start_in(
     ensures { λ r. ⌜ afterStart r (now (state .exit)) (now (meta .exit)) (now (answer .exit)) ≡
         startIn 52 64 mode setup (now (state .entry)) (now (flash .entry)) (now (meta .entry)) (now (answer .entry)) ⌝ }
 {
-    if state.len() != 136 {
-        return refuse(answer, 11);
+    if state.len() != STATE_SIZE {
+        return refuse(answer, refusal_number(Refusal::BadState));
     }
-    if answer.len() < 16 {
+    if answer.len() < ANSWER_SIZE {
         return unanswered(setup, flash.len(), meta.len());
     }
     started(mode, setup, state, flash, meta, answer)

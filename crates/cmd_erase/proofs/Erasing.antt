@@ -19,34 +19,34 @@ use Rattle.store_flash.proofs.Flash.{erased-length}
 use Rattle.store_flash.proofs.Answers.{erase-all}
 use Rattle.store_record.proofs.Record.{answer-above, advanced-refused, advanced-length, refreshed-length}
 use Rattle.wire_frames.specs.Fields.{addrOf, Ok, WriteError, AddrOutOfBounds}
-use Rattle.cmd_erase.specs.Erase.{Erased, countOf, eraseFits, readied, stuck, erasedTo, carried, eraseOf}
+use Rattle.cmd_erase.specs.Erase.{Erased, byteCountOf, rangeFits, readied, stuck, erasedTo, carried, eraseOf}
 
 -- the address a and the count n apart from the frame
-tested : (erase capacity : ℕ) (f : List ℕ) (a n : ℕ) → a ≡ addrOf f → n ≡ countOf f →
-    ltb 0 erase && (eqb (a % erase) 0 && (eqb (n % erase) 0 && (not (eqb n 0) && leb (a + n) capacity))) ≡ eraseFits erase capacity f
-unfolding eraseFits
+tested : (erase capacity : ℕ) (f : List ℕ) (a n : ℕ) → a ≡ addrOf f → n ≡ byteCountOf f →
+    ltb 0 erase && (eqb (a % erase) 0 && (eqb (n % erase) 0 && (not (eqb n 0) && leb (a + n) capacity))) ≡ rangeFits erase capacity f
+unfolding rangeFits
 tested erase capacity f a n ea en = rw (ea, en) refl
 
-module _ (erase capacity : ℕ) (f : List ℕ) (a n : ℕ) (ea : a ≡ addrOf f) (en : n ≡ countOf f) where
-  pub fits-none : erase ≡ 0 → false ≡ eraseFits erase capacity f
+module _ (erase capacity : ℕ) (f : List ℕ) (a n : ℕ) (ea : a ≡ addrOf f) (en : n ≡ byteCountOf f) where
+  pub fits-none : erase ≡ 0 → false ≡ rangeFits erase capacity f
   fits-none w = simp (le-ltb 0 erase (omega arith)) at (tested erase capacity f a n ea en)
 
   module _ (w : erase ≡ 0 → ⊥) where
     some : ltb 0 erase ≡ true
     some = lt-ltb 0 erase (omega arith)
 
-    pub fits-place : (a % erase ≡ 0 → ⊥) → false ≡ eraseFits erase capacity f
+    pub fits-place : (a % erase ≡ 0 → ⊥) → false ≡ rangeFits erase capacity f
     fits-place p = simp (some, ne-eqb (a % erase) 0 p) at (tested erase capacity f a n ea en)
 
     module _ (p : a % erase ≡ 0) where
-      pub fits-count : (n % erase ≡ 0 → ⊥) → false ≡ eraseFits erase capacity f
+      pub fits-count : (n % erase ≡ 0 → ⊥) → false ≡ rangeFits erase capacity f
       fits-count q = simp (some, eq-eqb (a % erase) 0 p, ne-eqb (n % erase) 0 q) at (tested erase capacity f a n ea en)
 
       module _ (q : n % erase ≡ 0) where
-        pub fits-empty : n ≡ 0 → false ≡ eraseFits erase capacity f
+        pub fits-empty : n ≡ 0 → false ≡ rangeFits erase capacity f
         fits-empty z = simp (some, eq-eqb (a % erase) 0 p, eq-eqb (n % erase) 0 q, eq-eqb n 0 z) at (tested erase capacity f a n ea en)
 
-        pub fits-end : (n ≡ 0 → ⊥) → leb (a + n) capacity ≡ eraseFits erase capacity f
+        pub fits-end : (n ≡ 0 → ⊥) → leb (a + n) capacity ≡ rangeFits erase capacity f
         fits-end z = simp (some, eq-eqb (a % erase) 0 p, eq-eqb (n % erase) 0 q, ne-eqb n 0 z) at (tested erase capacity f a n ea en)
 
 not-not : (b : Bool) → b ≡ not (not b)
@@ -86,7 +86,7 @@ stuck-kept meta = go (updating meta) (validating meta) (eqb (advanceAnswer meta)
     go false false true w h = let z : _≡_ {A = ℕ} 0 1 = cc in absurd (omega arith)
     go false false false w h = low w
 
-module _ (page erase capacity : ℕ) (f cells meta : List ℕ) (b : Bool) (e : b ≡ eraseFits erase capacity f) where
+module _ (page erase capacity : ℕ) (f cells meta : List ℕ) (b : Bool) (e : b ≡ rangeFits erase capacity f) where
   pub erase-outside : b ≡ false → erasedTo AddrOutOfBounds cells meta ≡ eraseOf page erase capacity f cells meta
   unfolding eraseOf
   erase-outside w = simp (← e, w)
@@ -100,7 +100,8 @@ module _ (page erase capacity : ℕ) (f cells meta : List ℕ) (b : Bool) (e : b
         rw (k .1, stuck-kept meta s, ← e, w, s) refl
 
     -- s is the storage's answer, x the cells that it leaves, t the status that the answer stands for
-    pub erase-carried : r ≡ true → (a n : ℕ) → a ≡ addrOf f → n ≡ countOf f → (s : Stored) (x : List ℕ) → leaves s x ≡ flash.eraseOf page cells a (a + n) →
+    pub erase-carried : r ≡ true → (a n : ℕ) → a ≡ addrOf f → n ≡ byteCountOf f → (s : Stored) (x : List ℕ) →
+        leaves s x ≡ flash.pagesErased page cells a (a + n) →
         (t : ℕ) → t ≡ pick (eqb (storedNumber s) 0) Ok WriteError → erasedTo t x m ≡ eraseOf page erase capacity f cells meta
     unfolding eraseOf
     erase-carried h a n ea en s x l t q =
@@ -122,14 +123,14 @@ pub record Fitting (erase capacity a n : ℕ) : Type 0 where
   pub least : 0 < n
   pub most : a + n ≤ capacity
 
-pub fitting : (erase capacity : ℕ) (f : List ℕ) → eraseFits erase capacity f ≡ true → Fitting erase capacity (addrOf f) (countOf f)
-unfolding eraseFits
+pub fitting : (erase capacity : ℕ) (f : List ℕ) → rangeFits erase capacity f ≡ true → Fitting erase capacity (addrOf f) (byteCountOf f)
+unfolding rangeFits
 fitting erase capacity f h =
     let h1 = and-both (ltb 0 erase) _ h in
     let h2 = and-both (eqb (addrOf f % erase) 0) _ (h1 .1) in
-    let h3 = and-both (eqb (countOf f % erase) 0) _ (h2 .1) in
-    let h4 = and-both (not (eqb (countOf f) 0)) _ (h3 .1) in
-    let z : countOf f ≡ 0 → ⊥ = eqb-false (countOf f) 0 (not-true _ (h4 .0)) in
+    let h3 = and-both (eqb (byteCountOf f % erase) 0) _ (h2 .1) in
+    let h4 = and-both (not (eqb (byteCountOf f) 0)) _ (h3 .1) in
+    let z : byteCountOf f ≡ 0 → ⊥ = eqb-false (byteCountOf f) 0 (not-true _ (h4 .0)) in
     record {
       some = ltb-true 0 erase (h1 .0);
       place = eqb-true _ _ (h2 .0);
@@ -140,38 +141,35 @@ fitting erase capacity f h =
 
 -- under a good setup the storage never refuses: the page divides the erase size, and the flash is as long as the capacity
 module _ (page erase capacity : ℕ) (f cells : List ℕ) (d : erase % page ≡ 0) (l : length cells ≡ capacity) where
-  pub erase-taken : eraseFits erase capacity f ≡ true →
-      flash.eraseOf page cells (addrOf f) (addrOf f + countOf f) ≡ leaves Stored.Done (flash.erased cells (addrOf f) (countOf f))
+  pub erase-taken : rangeFits erase capacity f ≡ true →
+      flash.pagesErased page cells (addrOf f) (addrOf f + byteCountOf f) ≡ leaves Stored.Done (flash.erased cells (addrOf f) (byteCountOf f))
   erase-taken h =
       let g = fitting erase capacity f h in
       let p = whole page erase (addrOf f) d (g .place) in
-      let q = whole page erase (countOf f) d (g .count) in
+      let q = whole page erase (byteCountOf f) d (g .count) in
       let e : (a n : ℕ) → a + n - a ≡ n = λ a n. omega arith in
-      rw (e (addrOf f) (countOf f)) at
-      (erase-all page cells (addrOf f) (addrOf f + countOf f) p (whole-end page (addrOf f) (countOf f) p q) (rw (← l) at (g .most)))
+      rw (e (addrOf f) (byteCountOf f)) at
+      (erase-all page cells (addrOf f) (addrOf f + byteCountOf f) p (whole-end page (addrOf f) (byteCountOf f) p q) (rw (← l) at (g .most)))
 
   -- so an Erase that fits is Ok, unless the record is stuck
   pub erase-good : (meta : List ℕ) → eraseOf page erase capacity f cells meta ≡
-      pick (eraseFits erase capacity f)
-      (pick (stuck meta) (erasedTo WriteError cells meta) (erasedTo Ok (flash.erased cells (addrOf f) (countOf f)) (readied meta)))
-      (erasedTo AddrOutOfBounds cells meta)
+      pick (not (rangeFits erase capacity f)) (erasedTo AddrOutOfBounds cells meta)
+      (pick (stuck meta) (erasedTo WriteError cells meta) (erasedTo Ok (flash.erased cells (addrOf f) (byteCountOf f)) (readied meta)))
   unfolding eraseOf
-  erase-good meta = go (eraseFits erase capacity f) refl
+  erase-good meta = go (rangeFits erase capacity f) refl
     where
-      go : (b : Bool) → eraseFits erase capacity f ≡ b →
-          pick b
+      go : (b : Bool) → rangeFits erase capacity f ≡ b →
+          pick (not b) (erasedTo AddrOutOfBounds cells meta)
           (pick (stuck meta) (erasedTo WriteError cells meta)
-          (carried (flash.eraseOf page cells (addrOf f) (addrOf f + countOf f)) (readied meta)))
-          (erasedTo AddrOutOfBounds cells meta)
-          ≡ pick b
-          (pick (stuck meta) (erasedTo WriteError cells meta) (erasedTo Ok (flash.erased cells (addrOf f) (countOf f)) (readied meta)))
-          (erasedTo AddrOutOfBounds cells meta)
+          (carried (flash.pagesErased page cells (addrOf f) (addrOf f + byteCountOf f)) (readied meta)))
+          ≡ pick (not b) (erasedTo AddrOutOfBounds cells meta)
+          (pick (stuck meta) (erasedTo WriteError cells meta) (erasedTo Ok (flash.erased cells (addrOf f) (byteCountOf f)) (readied meta)))
       go true h = rw (erase-taken h) refl
       go false h = refl
 
 -- lengths are kept, whatever the setup
-left-length : (page : ℕ) (cells : List ℕ) (from to : ℕ) → length (flash.eraseOf page cells from to .cells) ≡ length cells
-unfolding flash.eraseOf
+left-length : (page : ℕ) (cells : List ℕ) (from to : ℕ) → length (flash.pagesErased page cells from to .cells) ≡ length cells
+unfolding flash.pagesErased
 left-length page cells from to = go (unaligned page from || unaligned page to) (ltb (length cells) to)
   where
     go : (u o : Bool) →
@@ -194,23 +192,22 @@ readied-length meta = go (updating meta) (validating meta)
 module _ (page erase capacity : ℕ) (f cells meta : List ℕ) where
   either : (b s : Bool) → Erased
   either b s =
-      pick b
+      pick (not b) (erasedTo AddrOutOfBounds cells meta)
       (pick s (erasedTo WriteError cells meta)
-      (carried (flash.eraseOf page cells (addrOf f) (addrOf f + countOf f)) (readied meta)))
-      (erasedTo AddrOutOfBounds cells meta)
+      (carried (flash.pagesErased page cells (addrOf f) (addrOf f + byteCountOf f)) (readied meta)))
 
   pub erase-flash-length : length (eraseOf page erase capacity f cells meta .flash) ≡ length cells
   unfolding eraseOf either
-  erase-flash-length = go (eraseFits erase capacity f) (stuck meta)
+  erase-flash-length = go (rangeFits erase capacity f) (stuck meta)
     where
       go : (b s : Bool) → length (either b s .flash) ≡ length cells
       go true true = refl
-      go true false = left-length page cells (addrOf f) (addrOf f + countOf f)
+      go true false = left-length page cells (addrOf f) (addrOf f + byteCountOf f)
       go false s = refl
 
   pub erase-meta-length : length (eraseOf page erase capacity f cells meta .meta) ≡ length meta
   unfolding eraseOf either
-  erase-meta-length = go (eraseFits erase capacity f) (stuck meta)
+  erase-meta-length = go (rangeFits erase capacity f) (stuck meta)
     where
       go : (b s : Bool) → length (either b s .meta) ≡ length meta
       go true true = refl

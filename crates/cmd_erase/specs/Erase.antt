@@ -4,9 +4,9 @@ use mathlib.Core.Bool.{Bool, not, _&&_}
 use mathlib.Core.List.{List, [], _∷_}
 use lib.ListN.{getD}
 use lib.Dec.{leb, ltb, eqb}
-use Rattle.laws.specs.Pick.{pick}
+use Rattle.laws.specs.Pick.{if_then_else_}
 use Rattle.laws.specs.Low.{lowFirst}
-use Rattle.store_flash.specs.Flash.{Left}
+use Rattle.store_flash.specs.Flash.{Cells}
 use Rattle.store_flash.specs.Flash as flash
 use Rattle.store_record.specs.Record.{stateOf, refreshed, advanced, advanceAnswer, updating, validating}
 use Rattle.wire_frames.specs.Fields.{addrOf, Ok, WriteError, AddrOutOfBounds}
@@ -21,33 +21,32 @@ abbrev pub erasedTo : ℕ → List ℕ → List ℕ → Erased
 erasedTo status flash meta = record { status = status; flash = flash; meta = meta }
 
 -- the count, also of a frame with less data
-abbrev pub countOf : List ℕ → ℕ
-countOf f = lowFirst (getD f 10 0 ∷ getD f 11 0 ∷ [])
+abbrev pub byteCountOf : List ℕ → ℕ
+byteCountOf f = lowFirst (getD f 10 0 ∷ getD f 11 0 ∷ [])
 
 -- address and count are multiples of the erase size, the count is not 0, the end is within the capacity; an erase size of 0 fits nothing
-unfoldable pub eraseFits : ℕ → ℕ → List ℕ → Bool
-eraseFits erase capacity f =
+unfoldable pub rangeFits : ℕ → ℕ → List ℕ → Bool
+rangeFits erase capacity f =
     ltb 0 erase &&
     (eqb (addrOf f % erase) 0 &&
-    (eqb (countOf f % erase) 0 &&
-    (not (eqb (countOf f) 0) &&
-    leb (addrOf f + countOf f) capacity)))
+    (eqb (byteCountOf f % erase) 0 &&
+    (not (eqb (byteCountOf f) 0) &&
+    leb (addrOf f + byteCountOf f) capacity)))
 
 -- the record once it is ready for the erase, and whether that failed: Updating is, Validating is rewritten as Updating with no image, Idle is stepped down
 -- (which the Rust's floor may refuse: docs/DECISIONS.md)
 unfoldable pub readied : List ℕ → List ℕ
-readied meta = pick (updating meta) meta (pick (validating meta) (refreshed meta 0xFFFF 0x7F 0xFFFFFFFF) (advanced meta))
+readied meta = if updating meta then meta else if validating meta then refreshed meta 0xFFFF 0x7F 0xFFFFFFFF else advanced meta
 
 unfoldable pub stuck : List ℕ → Bool
 stuck meta = not (updating meta) && (not (validating meta) && not (eqb (advanceAnswer meta) 0))
 
 -- then the range is erased; what the storage refuses is a WriteError
-abbrev pub carried : Left → List ℕ → Erased
-carried left meta = erasedTo (pick (eqb (left .answer) 0) Ok WriteError) (left .cells) meta
+abbrev pub carried : Cells → List ℕ → Erased
+carried left meta = erasedTo (if eqb (left .answer) 0 then Ok else WriteError) (left .cells) meta
 
 unfoldable pub eraseOf : ℕ → ℕ → ℕ → List ℕ → List ℕ → List ℕ → Erased
 eraseOf page erase capacity f cells meta =
-    pick (eraseFits erase capacity f)
-    (pick (stuck meta) (erasedTo WriteError cells meta)
-    (carried (flash.eraseOf page cells (addrOf f) (addrOf f + countOf f)) (readied meta)))
-    (erasedTo AddrOutOfBounds cells meta)
+    if not (rangeFits erase capacity f) then erasedTo AddrOutOfBounds cells meta else
+    if stuck meta then erasedTo WriteError cells meta else
+    carried (flash.pagesErased page cells (addrOf f) (addrOf f + byteCountOf f)) (readied meta)

@@ -5,6 +5,7 @@ use store_flash::storage::Stored;
 use store_record::boot_meta_store;
 use store_record::traits::BootState;
 use wire_frames::fields;
+use wire_frames::frame::FrameBytes;
 use wire_numbers::Status;
 use wire_numbers::le;
 ghost use mathlib.Core.Path.{_≡_};
@@ -14,18 +15,18 @@ ghost use Rattle.laws.specs.Pick.{pick};
 ghost use Rattle.wire_numbers.specs.Names.{statusNumber};
 ghost use Rattle.store_flash.specs.Flash.{storedNumber};
 ghost use Rattle.wire_frames.specs.Fields.{Ok, WriteError};
-ghost use Rattle.cmd_erase.specs.Erase.{countOf, eraseFits, stuck, readied, erasedTo, eraseOf};
+ghost use Rattle.cmd_erase.specs.Erase.{byteCountOf, rangeFits, stuck, readied, erasedTo, eraseOf};
 
 // How many bytes, also of a frame with less data.
-fn byte_count(f: &[u8; 64]) -> u16
-    ensures { λ r. ⌜ r ≡ countOf (now (f .entry)) ⌝ }
+fn byte_count(f: &FrameBytes) -> u16
+    ensures { λ r. ⌜ r ≡ byteCountOf (now (f .entry)) ⌝ }
 {
     le::read16(f[10], f[11])
 }
 
 // Whole erase blocks, at least one, within the capacity.
-fn in_range(erase_size: usize, capacity: usize, f: &[u8; 64]) -> bool
-    ensures { λ r. ⌜ r ≡ eraseFits «erase_size» capacity (now (f .entry)) ⌝ }
+fn in_range(erase_size: usize, capacity: usize, f: &FrameBytes) -> bool
+    ensures { λ r. ⌜ r ≡ rangeFits «erase_size» capacity (now (f .entry)) ⌝ }
 {
     let addr = fields::addr(f) as usize;
     let count = byte_count(f) as usize;
@@ -73,11 +74,12 @@ fn status_of(stored: Stored) -> Status
 pub fn cmd_erase(
     erase_size: usize,
     capacity: usize,
-    f: &[u8; 64],
+    f: &FrameBytes,
     flash: &mut [u8],
     meta: &mut [u8],
 ) -> Status
-    ensures { λ r. ⌜ erasedTo (statusNumber r) (now (flash .exit)) (now (meta .exit)) ≡ eraseOf 64 «erase_size» capacity (now (f .entry)) (now (flash .entry)) (now (meta .entry)) ⌝ }
+    ensures { λ r. ⌜ erasedTo (statusNumber r) (now (flash .exit)) (now (meta .exit)) ≡
+        eraseOf 64 «erase_size» capacity (now (f .entry)) (now (flash .entry)) (now (meta .entry)) ⌝ }
 {
     if !in_range(erase_size, capacity, f) {
         return Status::AddrOutOfBounds;

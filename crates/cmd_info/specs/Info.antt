@@ -4,14 +4,14 @@ use mathlib.Core.Bool.{_||_}
 use mathlib.Core.List.{List, [], _∷_, _++_}
 use lib.ListN.{getD, take, drop}
 use lib.Dec.{ltb}
-use Rattle.laws.specs.Pick.{pick}
+use Rattle.laws.specs.Pick.{if_then_else_}
 use Rattle.laws.specs.Low.{lowFirst, lowBytes}
 use Rattle.store_record.specs.Record.{sizeOf, baudOf}
 
 -- the app's version: the two bytes before the stored size, 0xFFFF where there is no such size
 unfoldable pub appVersion : ℕ → List ℕ → List ℕ → ℕ
 appVersion capacity flash meta =
-    pick (ltb (sizeOf meta) 2 || ltb capacity (sizeOf meta)) 0xFFFF
+    if ltb (sizeOf meta) 2 || ltb capacity (sizeOf meta) then 0xFFFF else
     (lowFirst (getD flash (sizeOf meta - 2) 0xFF ∷ getD flash (sizeOf meta - 1) 0xFF ∷ []))
 
 -- the reply's eighteen bytes: capacity, erase size, boot version, app version, mode 0, baud, key, payload capacity

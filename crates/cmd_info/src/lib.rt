@@ -2,6 +2,7 @@
 
 use store_flash::cells::byte_at;
 use store_record::boot_meta_store;
+use wire_frames::frame::FrameBytes;
 use wire_numbers::le;
 ghost use mathlib.Core.Path.{_≡_};
 ghost use lib.ListN.{length};
@@ -62,7 +63,7 @@ pub fn cmd_info(
     erase_size: usize,
     version: u16,
     key: u32,
-    f: &mut [u8; 64],
+    f: &mut FrameBytes,
     flash: &[u8],
     meta: &[u8],
 )

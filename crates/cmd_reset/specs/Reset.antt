@@ -3,7 +3,7 @@ use Prim.Native.Nat.{ℕ}
 use mathlib.Core.Bool.{Bool, not, _&&_, _||_}
 use mathlib.Core.List.{List}
 use lib.ListN.{getD}
-use Rattle.laws.specs.Pick.{pick}
+use Rattle.laws.specs.Pick.{if_then_else_}
 use Rattle.wire_numbers.specs.Flags.{bitSet}
 use Rattle.store_record.specs.State.{appPresent}
 use Rattle.store_record.specs.Record.{baudSet, updating}
@@ -24,5 +24,5 @@ resetRefused f flash meta = not (bitSet 0 (flagsOf f)) && (updating meta || not 
 -- bit 1 rewrites the baud with the low address byte, whatever it is
 unfoldable pub resetOf : List ℕ → List ℕ → List ℕ → Resets
 resetOf f flash meta =
-    pick (resetRefused f flash meta) (resetsTo Unsupported meta)
-    (resetsTo Ok (pick (bitSet 1 (flagsOf f)) (baudSet meta (getD f 4 0)) meta))
+    if resetRefused f flash meta then resetsTo Unsupported meta else
+    resetsTo Ok (if bitSet 1 (flagsOf f) then baudSet meta (getD f 4 0) else meta)

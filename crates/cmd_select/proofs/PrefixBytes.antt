@@ -15,7 +15,7 @@ use lib.Seq.{paste, drop-paste, getD-take, getD-drop, take-length, take-all}
 use lib.Bits.{bitAnd, bitOr, bitXor, and-mask, xor-mod, xor-self, xor-add-and, or-add-and, and-le-l, and-le-r}
 use Rattle.laws.proofs.Upto.{every}
 use Rattle.cmd_select.specs.declared.Selected.the-variants.{Yes, No}
-use Rattle.cmd_select.specs.Select.{seedOf, countOf, prefixOf, agree, matches, slotOf, copied, selectOf, choiceOf}
+use Rattle.cmd_select.specs.Select.{seedOf, bitCountOf, prefixOf, agree, matches, slotOf, copied, selectOf, choiceOf}
 use Rattle.cmd_select.proofs.PrefixBits.{lt-or-ge}
 
 -- two tests are the same where the equations that they test are
@@ -144,11 +144,11 @@ last u f i e = rw (e, take-length u)
 
 -- the answers
 module _ (u f g : List ℕ) (at : g ≡ copied u f) where
-  pub yes : (w : ℕ) → true ≡ matches (countOf f) u (prefixOf f) → w ≡ slotOf (seedOf f) u → choiceOf (Yes w) g ≡ selectOf u f
+  pub yes : (w : ℕ) → true ≡ matches (bitCountOf f) u (prefixOf f) → w ≡ slotOf (seedOf f) u → choiceOf (Yes w) g ≡ selectOf u f
   unfolding selectOf
   yes w m e = rw (← m, at, e)
 
-  pub no : false ≡ matches (countOf f) u (prefixOf f) → choiceOf No g ≡ selectOf u f
+  pub no : false ≡ matches (bitCountOf f) u (prefixOf f) → choiceOf No g ≡ selectOf u f
   unfolding selectOf
   no m = rw (← m, at)
 

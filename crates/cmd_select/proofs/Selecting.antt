@@ -11,7 +11,7 @@ use lib.Seq.{length-take-le, take-at, drop-at, getD-take, getD-drop, ext-getD}
 use Rattle.laws.proofs.Bools.{and-both}
 use Rattle.cmd_select.specs.declared.Selected.{Selected}
 use Rattle.cmd_select.specs.declared.Selected.the-variants.{Yes, No}
-use Rattle.cmd_select.specs.Select.{seedOf, countOf, prefixOf, bitAt, agree, matches, slotOf, copied, Choice, selectOf, choiceOf}
+use Rattle.cmd_select.specs.Select.{seedOf, bitCountOf, prefixOf, bitAt, agree, matches, slotOf, copied, Choice, selectOf, choiceOf}
 use Rattle.cmd_select.proofs.PrefixBits.{every-agree, matches-every, every-matches}
 use Rattle.cmd_select.proofs.PrefixBytes.{run}
 
@@ -67,13 +67,13 @@ select-length id f h l = rw bytes-copied (copied-length id f (omega arith) ∙ l
 -- what each answer of the code says, from its contract
 module _ (id f g : List ℕ) where
   pub told-yes : (w : ℕ) → choiceOf (Yes w) g ≡ selectOf id f →
-      (matches (countOf f) id (prefixOf f) ≡ true) × (w ≡ slotOf (seedOf f) id) × (g ≡ copied id f)
+      (matches (bitCountOf f) id (prefixOf f) ≡ true) × (w ≡ slotOf (seedOf f) id) × (g ≡ copied id f)
   unfolding selectOf
   told-yes w e =
-      let m : matches (countOf f) id (prefixOf f) ≡ true = sym (ap (λ (c : Choice). c .match) e) in
+      let m : matches (bitCountOf f) id (prefixOf f) ≡ true = sym (ap (λ (c : Choice). c .match) e) in
       (m, rw m at (ap (λ (c : Choice). c .wait) e), ap (λ (c : Choice). c .bytes) e)
 
-  pub told-no : choiceOf No g ≡ selectOf id f → (matches (countOf f) id (prefixOf f) ≡ false) × (g ≡ copied id f)
+  pub told-no : choiceOf No g ≡ selectOf id f → (matches (bitCountOf f) id (prefixOf f) ≡ false) × (g ≡ copied id f)
   unfolding selectOf
   told-no e = (sym (ap (λ (c : Choice). c .match) e), ap (λ (c : Choice). c .bytes) e)
 
@@ -114,7 +114,7 @@ only-one a b p e ha hb ma mb = ext-getD 0 a b e each
         omega (arith, ha i h, hb i (omega arith))
 
 -- the same of two devices that hear one frame
-pub only-one-selected : (a b f : List ℕ) → length a ≡ length b → Bytes a → Bytes b → countOf f ≡ 8 * length a →
+pub only-one-selected : (a b f : List ℕ) → length a ≡ length b → Bytes a → Bytes b → bitCountOf f ≡ 8 * length a →
     selectOf a f .match ≡ true → selectOf b f .match ≡ true → a ≡ b
 unfolding selectOf
 only-one-selected a b f e ha hb n ma mb = only-one a b (prefixOf f) e ha hb (rw n at ma) (rw n at mb)

@@ -14,8 +14,8 @@ use Rattle.cmd_select.specs.declared.Selected.the-variants.{Yes, No}
 abbrev pub seedOf : List ℕ → ℕ
 seedOf f = getD f 10 0
 
-abbrev pub countOf : List ℕ → ℕ
-countOf f = getD f 11 0
+abbrev pub bitCountOf : List ℕ → ℕ
+bitCountOf f = getD f 11 0
 
 abbrev pub prefixOf : List ℕ → List ℕ
 prefixOf f = take 16 (drop 12 f)
@@ -53,8 +53,8 @@ pub record Choice : Type 0 where
 unfoldable pub selectOf : List ℕ → List ℕ → Choice
 selectOf id f =
     record {
-      match = matches (countOf f) id (prefixOf f);
-      wait = pick (matches (countOf f) id (prefixOf f)) (slotOf (seedOf f) id) 0;
+      match = matches (bitCountOf f) id (prefixOf f);
+      wait = pick (matches (bitCountOf f) id (prefixOf f)) (slotOf (seedOf f) id) 0;
       bytes = copied id f;
     }
 

@@ -1,12 +1,13 @@
 // Translated from tinyboot, lib/core/src/addressing.rs (MIT OR Apache-2.0); changed.
 
+use wire_frames::frame::FrameBytes;
 use wire_numbers::crc;
 ghost use mathlib.Core.Path.{_≡_};
 ghost use mathlib.Core.Bool.{_&&_};
 ghost use Prim.Native.Nat.{_+_, _-_, _%_, _^_, _≤_, _<_};
 ghost use lib.Dec.{eqb};
 ghost use lib.ListN.{length, take};
-ghost use Rattle.cmd_select.specs.Select.{seedOf, countOf, prefixOf, matches, slotOf, copied, selectOf, choiceOf};
+ghost use Rattle.cmd_select.specs.Select.{seedOf, bitCountOf, prefixOf, matches, slotOf, copied, selectOf, choiceOf};
 
 // Largest unique id, in bytes.
 pub const MAX_UID_LEN: usize = 16;
@@ -46,9 +47,10 @@ fn wide(x: u8) -> u32
 
 // One pass compares the prefix and copies the id over it for the reply: a byte of the prefix is read before the byte two places before it is
 // written. Bits left after the id mean a prefix longer than the id, which matches nothing.
-fn pass(uid: &[u8], f: &mut [u8; 64]) -> bool
+fn pass(uid: &[u8], f: &mut FrameBytes) -> bool
     requires { ⌜ (length (now uid) ≤ 16) × (length (now f) ≡ 64) ⌝ }
-    ensures { λ r. ⌜ (r ≡ matches (countOf (now (f .entry))) (now (uid .entry)) (prefixOf (now (f .entry)))) × (now (f .exit) ≡ copied (now (uid .entry)) (now (f .entry))) ⌝ }
+    ensures { λ r. ⌜ (r ≡ matches (bitCountOf (now (f .entry))) (now (uid .entry)) (prefixOf (now (f .entry)))) ×
+        (now (f .exit) ≡ copied (now (uid .entry)) (now (f .entry))) ⌝ }
 {
     let mut rem = wide(f[11]);
     let mut diff: u32 = 0;
@@ -82,7 +84,7 @@ fn seed_of(f: &[u8]) -> u8
 }
 
 // The same of an id that is as long as its slice.
-fn select_uid(uid: &[u8], f: &mut [u8; 64]) -> Selected
+fn select_uid(uid: &[u8], f: &mut FrameBytes) -> Selected
     requires { ⌜ length (now uid) ≤ 16 ⌝ }
     ensures { λ r. ⌜ choiceOf r (now (f .exit)) ≡ selectOf (now (uid .entry)) (now (f .entry)) ⌝ }
 {
@@ -107,7 +109,7 @@ fn at_most_16(n: usize) -> usize
 
 // Handles `Select`: the data area holds seed, bit count, prefix, as it stands, and the id is copied over it, match or not. The id is the first
 // `len` bytes of `id`, all 16 if `len` is above 16. A length of 0, the unaddressed device's, never gets here; of no id at all a count of 0 matches.
-pub fn select(id: [u8; 16], len: usize, f: &mut [u8; 64]) -> Selected
+pub fn select(id: [u8; 16], len: usize, f: &mut FrameBytes) -> Selected
     ensures { λ r. ⌜ choiceOf r (now (f .exit)) ≡ selectOf (take len id) (now (f .entry)) ⌝ }
 {
     let n = at_most_16(len);

@@ -2,7 +2,7 @@
 use Prim.Native.Nat.{ℕ, _%_, _≤_, _<_}
 use mathlib.Core.Path.{_≡_, refl}
 use mathlib.Core.List.{List}
-use mathlib.Core.Bool.{Bool, true, false, _||_}
+use mathlib.Core.Bool.{Bool, true, false, not, _||_}
 use lib.ListN.{length, take}
 use lib.Dec.{ltb, eqb}
 use borrow.Author.Tests.{lt-ltb, le-ltb, eq-eqb, ne-eqb}
@@ -11,7 +11,7 @@ use Rattle.wire_numbers.specs.Crc.{crcOf}
 use Rattle.store_record.specs.Record.{refreshed, updating}
 use Rattle.store_record.proofs.Record.{refreshed-length}
 use Rattle.wire_frames.specs.Fields.{addrOf, Ok, AddrOutOfBounds, Unsupported, Incompatible}
-use Rattle.cmd_verify.specs.Verify.{verifiedTo, keyAt, keyOf, keyFits, recorded, verifyOf}
+use Rattle.cmd_verify.specs.Verify.{verifiedTo, keyAt, keyIn, keyFits, recorded, verifyOf}
 
 module _ (key capacity : ℕ) (flash : List ℕ) (size : ℕ) where
   pub fits-unset : key ≡ 0xFFFFFFFF → true ≡ keyFits key capacity flash size
@@ -27,16 +27,15 @@ module _ (key capacity : ℕ) (flash : List ℕ) (size : ℕ) where
     unfolding keyFits
     fits-past h l = simp (ne-eqb key 0xFFFFFFFF w, ← e, eq-eqb (at % 4) 0 h, le-ltb at capacity l)
 
-    pub fits-compared : at % 4 ≡ 0 → at < capacity → (k : ℕ) → k ≡ keyOf flash at → eqb k key ≡ keyFits key capacity flash size
+    pub fits-compared : at % 4 ≡ 0 → at < capacity → (k : ℕ) → k ≡ keyIn flash at → eqb k key ≡ keyFits key capacity flash size
     unfolding keyFits
     fits-compared h l k q = simp (ne-eqb key 0xFFFFFFFF w, ← e, eq-eqb (at % 4) 0 h, lt-ltb at capacity l, q)
 
 -- the size s apart from the frame
 judged : (key capacity s : ℕ) (f flash meta : List ℕ) (u : Bool) → u ≡ updating meta → s ≡ addrOf f →
-    pick u
+    pick (not u) (verifiedTo Unsupported 0 meta)
     (pick (eqb s 0 || ltb capacity s) (verifiedTo AddrOutOfBounds 0 meta)
-    (pick (keyFits key capacity flash s) (recorded flash meta s) (verifiedTo Incompatible 0 meta)))
-    (verifiedTo Unsupported 0 meta)
+    (pick (not (keyFits key capacity flash s)) (verifiedTo Incompatible 0 meta) (recorded flash meta s)))
     ≡ verifyOf key capacity f flash meta
 unfolding verifyOf
 judged key capacity s f flash meta u e k = rw (k, e) refl
@@ -67,9 +66,8 @@ verify-length key capacity f flash meta =
   where
     go : (u o k : Bool) →
         length
-        (pick u
-        (pick o (verifiedTo AddrOutOfBounds 0 meta) (pick k (recorded flash meta (addrOf f)) (verifiedTo Incompatible 0 meta)))
-        (verifiedTo Unsupported 0 meta) .meta)
+        (pick (not u) (verifiedTo Unsupported 0 meta)
+        (pick o (verifiedTo AddrOutOfBounds 0 meta) (pick (not k) (verifiedTo Incompatible 0 meta) (recorded flash meta (addrOf f)))) .meta)
         ≡ length meta
     go false o k = refl
     go true true k = refl

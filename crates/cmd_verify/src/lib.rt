@@ -5,6 +5,7 @@ use store_flash::cells::first;
 use store_record::boot_meta_store;
 use store_record::traits::BootState;
 use wire_frames::fields;
+use wire_frames::frame::FrameBytes;
 use wire_numbers::COMPAT_UNSET;
 use wire_numbers::Status;
 use wire_numbers::crc;
@@ -12,7 +13,7 @@ use wire_numbers::le;
 ghost use mathlib.Core.Path.{_≡_};
 ghost use Prim.Native.Nat.{_+_, _^_, _<_};
 ghost use Rattle.wire_numbers.specs.Names.{statusNumber};
-ghost use Rattle.cmd_verify.specs.Verify.{keyAt, keyOf, keyFits, verifiedTo, verifyOf};
+ghost use Rattle.cmd_verify.specs.Verify.{keyAt, keyIn, keyFits, verifiedTo, verifyOf};
 
 // How a Verify went, and the CRC that it replies: 0 where it is refused.
 pub struct Verdict {
@@ -30,7 +31,7 @@ fn key_place(size: u32) -> u32
 
 fn key_of(flash: &[u8], at: usize) -> u32
     requires { ⌜ at < 2 ^ 32 ⌝ }
-    ensures { λ r. ⌜ r ≡ keyOf (now (flash .entry)) at ⌝ }
+    ensures { λ r. ⌜ r ≡ keyIn (now (flash .entry)) at ⌝ }
 {
     le::read32(
         byte_at(flash, at),
@@ -58,8 +59,15 @@ fn key_fits(key: u32, capacity: usize, flash: &[u8], size: u32) -> bool
 }
 
 // The address is the size. Nothing is compared with the CRC: the host does that.
-pub fn cmd_verify(key: u32, capacity: usize, f: &[u8; 64], flash: &[u8], meta: &mut [u8]) -> Verdict
-    ensures { λ r. ⌜ verifiedTo (statusNumber (r .status)) (r .crc) (now (meta .exit)) ≡ verifyOf key capacity (now (f .entry)) (now (flash .entry)) (now (meta .entry)) ⌝ }
+pub fn cmd_verify(
+    key: u32,
+    capacity: usize,
+    f: &FrameBytes,
+    flash: &[u8],
+    meta: &mut [u8],
+) -> Verdict
+    ensures { λ r. ⌜ verifiedTo (statusNumber (r .status)) (r .crc) (now (meta .exit)) ≡
+        verifyOf key capacity (now (f .entry)) (now (flash .entry)) (now (meta .entry)) ⌝ }
 {
     if !boot_meta_store::is_updating(meta) {
         return Verdict {

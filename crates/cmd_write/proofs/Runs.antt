@@ -2,7 +2,7 @@
 use Prim.Native.Nat.{ℕ, _+_, _-_, _%_, _≤_, _<_}
 use mathlib.Core.Path.{_≡_, refl, sym, ap, _∙_}
 use mathlib.Core.List.{List, [], _∷_}
-use mathlib.Core.Bool.{Bool, true, false}
+use mathlib.Core.Bool.{Bool, true, false, not}
 use mathlib.Core.Logic.{_⊎_, inl, inr}
 use native.Mathlib.Omega.{arith}
 use lib.ListN.{length, take, drop, set, length-take}
@@ -12,15 +12,16 @@ use Rattle.laws.specs.Pick.{pick}
 use Rattle.laws.proofs.Bools.{and-both}
 use Rattle.wire_frames.specs.Fields.{lenOf, addrOf, flagsOf, dataOf, Ok, AddrOutOfBounds, Unsupported}
 use Rattle.wire_numbers.specs.Flags.{bitSet}
-use Rattle.store_flash.specs.Flash.{leaves, written, writeOf}
+use Rattle.store_flash.specs.Flash.{leaves, written, pageWritten, nonePending}
 use Rattle.store_flash.specs.declared.storage.Stored.{Stored}
 use Rattle.store_flash.proofs.Answers.{write-all}
 use Rattle.store_record.specs.Record.{updating}
-use Rattle.cmd_write.specs.Write.{Run, none, pageOut, put, took, poured, over, flushed, writeFits, done, wroteTo, begin, writtenOf, cmdWriteOf}
+use Rattle.cmd_write.specs.Write.{Run, pageOut, put, took, poured, runEnded, flushed, writeFits, done, wroteTo, begin, writtenOf, writeOf}
 use Rattle.cmd_write.proofs.Writing.{write-length, poured-flash, poured-page}
 
 -- a page's start, and no more than is there
-write-fine : (f : List ℕ) (at n : ℕ) (p : List ℕ) → at % 64 ≡ 0 → n ≤ 64 → at + n ≤ length f → writeOf 64 f at (take n p) ≡ leaves Stored.Done (written f at (take n p))
+write-fine : (f : List ℕ) (at n : ℕ) (p : List ℕ) → at % 64 ≡ 0 → n ≤ 64 → at + n ≤ length f →
+    pageWritten 64 f at (take n p) ≡ leaves Stored.Done (written f at (take n p))
 write-fine f at n p a h l =
     let t : length (take n p) ≤ n = omega (arith, length-take n p) in
     write-all 64 f at (take n p) a (omega arith) (omega arith)
@@ -40,7 +41,8 @@ took-sound size w b left s = go (eqb (w .fill + 1) 64) refl
     go : (t : Bool) → eqb (w .fill + 1) 64 ≡ t → Sound size (pick t (pageOut 64 64 (put w b)) (put w b)) left
     go true e =
         let f : w .fill + 1 ≡ 64 = eqb-true _ _ e in
-        let x = write-fine (w .flash) (w .next + 1 - 64) 64 (set (w .page) (w .fill) b) (omega (arith, s .place)) (omega arith) (omega (arith, s .place, s .room, s .kept)) in
+        let x = write-fine (w .flash) (w .next + 1 - 64) 64 (set (w .page) (w .fill) b) (omega (arith, s .place)) (omega arith)
+        (omega (arith, s .place, s .room, s .kept)) in
         record {
           below = omega arith;
           place = omega (arith, s .place);
@@ -70,16 +72,17 @@ flushed-fine : (size : ℕ) (w : Run) → Sound size w 0 → flushed 64 w .faile
 unfolding flushed
 flushed-fine size w s = go (eqb (w .fill) 0)
   where
-    go : (t : Bool) → over (pick t w (pageOut 64 (w .fill) w)) .failed ≡ false
+    go : (t : Bool) → runEnded (pick t w (pageOut 64 (w .fill) w)) .failed ≡ false
     go true = s .fine
     go false =
-        let x = write-fine (w .flash) (w .next - w .fill) (w .fill) (w .page) (omega (arith, s .place)) (omega (arith, s .below)) (omega (arith, s .place, s .room, s .kept)) in
+        let x = write-fine (w .flash) (w .next - w .fill) (w .fill) (w .page) (omega (arith, s .place)) (omega (arith, s .below))
+        (omega (arith, s .place, s .room, s .kept)) in
         rw (x, s .fine) refl
 
 -- 01, What a call says, on a run: well formed
 pub record Pending (capacity fill next : ℕ) : Type 0 where
   pub below : fill < 64
-  pub place : ((next ≡ none) × (fill ≡ 0)) ⊎ ((next ≤ capacity) × (next % 64 ≡ fill))
+  pub place : ((next ≡ nonePending) × (fill ≡ 0)) ⊎ ((next ≤ capacity) × (next % 64 ≡ fill))
 
 module _ (capacity : ℕ) (f flash p : List ℕ) (l : length flash ≡ capacity) (h : addrOf f + lenOf f ≤ capacity) where
   begin-sound : Sound capacity (begin 64 f flash p) (length (dataOf f))
@@ -119,7 +122,7 @@ flushed-flash : (w : Run) → length (flushed 64 w .flash) ≡ length (w .flash)
 unfolding flushed
 flushed-flash w = go (eqb (w .fill) 0)
   where
-    go : (t : Bool) → length (over (pick t w (pageOut 64 (w .fill) w)) .flash) ≡ length (w .flash)
+    go : (t : Bool) → length (runEnded (pick t w (pageOut 64 (w .fill) w)) .flash) ≡ length (w .flash)
     go true = refl
     go false = write-length 64 (w .flash) (w .next - w .fill) (take (w .fill) (w .page))
 
@@ -127,7 +130,7 @@ flushed-page : (w : Run) → flushed 64 w .page ≡ w .page
 unfolding flushed
 flushed-page w = go (eqb (w .fill) 0)
   where
-    go : (t : Bool) → over (pick t w (pageOut 64 (w .fill) w)) .page ≡ w .page
+    go : (t : Bool) → runEnded (pick t w (pageOut 64 (w .fill) w)) .page ≡ w .page
     go true = refl
     go false = refl
 
@@ -145,21 +148,23 @@ written-lengths f w = go (bitSet 7 (flagsOf f))
 fits-room : (capacity : ℕ) (f : List ℕ) (next : ℕ) → writeFits 64 capacity f next ≡ true → addrOf f + lenOf f ≤ capacity
 unfolding writeFits
 fits-room capacity f next e =
-    leb-true _ _ (and-both (leb (addrOf f + lenOf f) capacity) (pick (eqb next none) (eqb (addrOf f % 64) 0) (eqb (addrOf f) next)) e .0)
+    leb-true _ _ (and-both (leb (addrOf f + lenOf f) capacity) (pick (eqb next nonePending) (eqb (addrOf f % 64) 0) (eqb (addrOf f) next)) e .0)
 
 module _ (capacity : ℕ) (f flash p : List ℕ) (fill next : ℕ) (meta : List ℕ) where
   -- the storage refuses nothing
-  pub write-ok : length flash ≡ capacity → updating meta ≡ true → writeFits 64 capacity f next ≡ true → cmdWriteOf 64 capacity f flash p fill next meta .status ≡ Ok
-  unfolding cmdWriteOf
+  pub write-ok : length flash ≡ capacity → updating meta ≡ true → writeFits 64 capacity f next ≡ true →
+      writeOf 64 capacity f flash p fill next meta .status ≡ Ok
+  unfolding writeOf
   write-ok l u h = rw (u, h, written-fine capacity f flash p l (fits-room capacity f next h)) refl
 
   -- nothing else is answered Ok
-  pub write-ok-only : cmdWriteOf 64 capacity f flash p fill next meta .status ≡ Ok → (updating meta ≡ true) × (writeFits 64 capacity f next ≡ true)
-  unfolding cmdWriteOf
+  pub write-ok-only : writeOf 64 capacity f flash p fill next meta .status ≡ Ok → (updating meta ≡ true) × (writeFits 64 capacity f next ≡ true)
+  unfolding writeOf
   write-ok-only = go (updating meta) (writeFits 64 capacity f next)
     where
       go : (u t : Bool) →
-          pick u (pick t (done (writtenOf 64 f (begin 64 f flash p))) (wroteTo AddrOutOfBounds flash p fill next)) (wroteTo Unsupported flash p fill next) .status ≡ Ok →
+          pick (not u) (wroteTo Unsupported flash p fill next) (pick (not t) (wroteTo AddrOutOfBounds flash p fill next)
+          (done (writtenOf 64 f (begin 64 f flash p)))) .status ≡ Ok →
           (u ≡ true) × (t ≡ true)
       go true true e = (refl, refl)
       go true false e = absurd (omega arith)
@@ -167,38 +172,44 @@ module _ (capacity : ℕ) (f flash p : List ℕ) (fill next : ℕ) (meta : List 
 
   -- a well-formed run stays so, whatever is answered
   pub write-pending : length flash ≡ capacity → Pending capacity fill next →
-      Pending capacity (cmdWriteOf 64 capacity f flash p fill next meta .fill) (cmdWriteOf 64 capacity f flash p fill next meta .next)
-  unfolding cmdWriteOf
+      Pending capacity (writeOf 64 capacity f flash p fill next meta .fill) (writeOf 64 capacity f flash p fill next meta .next)
+  unfolding writeOf
   write-pending l v = go (updating meta) (writeFits 64 capacity f next) refl
     where
       go : (u t : Bool) → writeFits 64 capacity f next ≡ t →
-          Pending capacity (pick u (pick t (done (writtenOf 64 f (begin 64 f flash p))) (wroteTo AddrOutOfBounds flash p fill next)) (wroteTo Unsupported flash p fill next) .fill)
-          (pick u (pick t (done (writtenOf 64 f (begin 64 f flash p))) (wroteTo AddrOutOfBounds flash p fill next)) (wroteTo Unsupported flash p fill next) .next)
+          Pending capacity (pick (not u) (wroteTo Unsupported flash p fill next)
+          (pick (not t) (wroteTo AddrOutOfBounds flash p fill next) (done (writtenOf 64 f (begin 64 f flash p)))) .fill)
+          (pick (not u) (wroteTo Unsupported flash p fill next) (pick (not t) (wroteTo AddrOutOfBounds flash p fill next)
+          (done (writtenOf 64 f (begin 64 f flash p)))) .next)
       go true true h = written-pending capacity f flash p l (fits-room capacity f next h)
       go true false h = v
       go false t h = v
 
-  pub write-lengths : (length (cmdWriteOf 64 capacity f flash p fill next meta .flash) ≡ length flash) × (length (cmdWriteOf 64 capacity f flash p fill next meta .page) ≡ length p)
-  unfolding cmdWriteOf
+  pub write-lengths : (length (writeOf 64 capacity f flash p fill next meta .flash) ≡ length flash) ×
+      (length (writeOf 64 capacity f flash p fill next meta .page) ≡ length p)
+  unfolding writeOf
   write-lengths = go (updating meta) (writeFits 64 capacity f next)
     where
       go : (u t : Bool) →
-          (length (pick u (pick t (done (writtenOf 64 f (begin 64 f flash p))) (wroteTo AddrOutOfBounds flash p fill next)) (wroteTo Unsupported flash p fill next) .flash) ≡ length flash) ×
-          (length (pick u (pick t (done (writtenOf 64 f (begin 64 f flash p))) (wroteTo AddrOutOfBounds flash p fill next)) (wroteTo Unsupported flash p fill next) .page) ≡ length p)
+          (length (pick (not u) (wroteTo Unsupported flash p fill next)
+          (pick (not t) (wroteTo AddrOutOfBounds flash p fill next) (done (writtenOf 64 f (begin 64 f flash p)))) .flash) ≡ length flash) ×
+          (length (pick (not u) (wroteTo Unsupported flash p fill next)
+          (pick (not t) (wroteTo AddrOutOfBounds flash p fill next) (done (writtenOf 64 f (begin 64 f flash p)))) .page) ≡ length p)
       go true true = written-lengths f (begin 64 f flash p)
       go true false = (refl, refl)
       go false t = (refl, refl)
 
 -- in a well-formed state the place of an accepted write's first byte is the fill
-pub write-place : (capacity : ℕ) (f : List ℕ) (fill next : ℕ) → capacity < none → Pending capacity fill next → writeFits 64 capacity f next ≡ true → addrOf f % 64 ≡ fill
+pub write-place : (capacity : ℕ) (f : List ℕ) (fill next : ℕ) → capacity < nonePending → Pending capacity fill next → writeFits 64 capacity f next ≡ true →
+    addrOf f % 64 ≡ fill
 unfolding writeFits
-write-place capacity f fill next c v e = go (eqb next none) refl (v .place)
+write-place capacity f fill next c v e = go (eqb next nonePending) refl (v .place)
   where
-    t : pick (eqb next none) (eqb (addrOf f % 64) 0) (eqb (addrOf f) next) ≡ true
-    t = and-both (leb (addrOf f + lenOf f) capacity) (pick (eqb next none) (eqb (addrOf f % 64) 0) (eqb (addrOf f) next)) e .1
+    t : pick (eqb next nonePending) (eqb (addrOf f % 64) 0) (eqb (addrOf f) next) ≡ true
+    t = and-both (leb (addrOf f + lenOf f) capacity) (pick (eqb next nonePending) (eqb (addrOf f % 64) 0) (eqb (addrOf f) next)) e .1
 
-    go : (b : Bool) → eqb next none ≡ b → ((next ≡ none) × (fill ≡ 0)) ⊎ ((next ≤ capacity) × (next % 64 ≡ fill)) → addrOf f % 64 ≡ fill
+    go : (b : Bool) → eqb next nonePending ≡ b → ((next ≡ nonePending) × (fill ≡ 0)) ⊎ ((next ≤ capacity) × (next % 64 ≡ fill)) → addrOf f % 64 ≡ fill
     go true h (inl x) = eqb-true (addrOf f % 64) 0 (rw h at t) ∙ sym (x .1)
-    go true h (inr x) = let n : next ≡ none = eqb-true _ _ h in absurd (omega (arith, x .0))
+    go true h (inr x) = let n : next ≡ nonePending = eqb-true _ _ h in absurd (omega (arith, x .0))
     go false h (inl x) = absurd (eqb-false _ _ h (x .0))
     go false h (inr x) = ap (λ (k : ℕ). k % 64) (eqb-true (addrOf f) next (rw h at t)) ∙ x .1

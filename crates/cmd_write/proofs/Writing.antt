@@ -12,11 +12,11 @@ use borrow.Author.Tests.{eq-eqb, ne-eqb, le-leb, lt-leb, eqb-false}
 use Rattle.laws.specs.Pick.{pick}
 use Rattle.wire_numbers.specs.Flags.{bitSet}
 use Rattle.wire_frames.specs.Fields.{lenOf, addrOf, flagsOf, dataOf, Ok, WriteError, AddrOutOfBounds, Unsupported}
-use Rattle.store_flash.specs.Flash.{unaligned, leaves, written, writeOf}
+use Rattle.store_flash.specs.Flash.{unaligned, leaves, written, pageWritten, nonePending}
 use Rattle.store_flash.specs.declared.storage.Stored.{Stored}
 use Rattle.store_flash.proofs.Flash.{written-length}
 use Rattle.store_record.specs.Record.{updating}
-use Rattle.cmd_write.specs.Write.{Run, running, none, fails, pageOut, put, took, poured, over, flushed, writeFits, wroteTo, begin, writtenOf, cmdWriteOf}
+use Rattle.cmd_write.specs.Write.{Run, running, fails, pageOut, put, took, poured, runEnded, flushed, writeFits, wroteTo, begin, writtenOf, writeOf}
 
 -- the data: a length above what the frame holds takes all there is
 module _ (f : List ℕ) (l : length f ≡ 64) (len : ℕ) (e : len ≡ lenOf f) where
@@ -35,17 +35,17 @@ module _ (capacity : ℕ) (f : List ℕ) (next addr len : ℕ) (a : addr ≡ add
   fits-not h = rw (← a, ← l, lt-leb (addr + len) capacity h) refl
 
   module _ (h : addr + len ≤ capacity) where
-    pub fits-first : next ≡ none → eqb (addr % 64) 0 ≡ writeFits 64 capacity f next
+    pub fits-first : next ≡ nonePending → eqb (addr % 64) 0 ≡ writeFits 64 capacity f next
     unfolding writeFits
-    fits-first n = rw (← a, ← l, le-leb (addr + len) capacity h, eq-eqb next none n) refl
+    fits-first n = rw (← a, ← l, le-leb (addr + len) capacity h, eq-eqb next nonePending n) refl
 
-    pub fits-on : (next ≡ none → ⊥) → eqb addr next ≡ writeFits 64 capacity f next
+    pub fits-on : (next ≡ nonePending → ⊥) → eqb addr next ≡ writeFits 64 capacity f next
     unfolding writeFits
-    fits-on n = rw (← a, ← l, le-leb (addr + len) capacity h, ne-eqb next none n) refl
+    fits-on n = rw (← a, ← l, le-leb (addr + len) capacity h, ne-eqb next nonePending n) refl
 
 -- a page written
 pub out-is : (flash flash' p : List ℕ) (fill next n answer : ℕ) (failed r : Bool) →
-    record { answer = answer; cells = flash' } ≡ writeOf 64 flash (next - n) (take n p) → r ≡ (failed || fails answer) →
+    record { answer = answer; cells = flash' } ≡ pageWritten 64 flash (next - n) (take n p) → r ≡ (failed || fails answer) →
     running flash' p 0 next r ≡ pageOut 64 n (running flash p fill next failed)
 out-is flash flash' p fill next n answer failed r e k = rw (← e, k) refl
 
@@ -61,11 +61,12 @@ module _ (flash p : List ℕ) (fill next : ℕ) (failed : Bool) (b : ℕ) where
 
 -- the end of a run: with nothing left of a page, or with w once it is written
 module _ (flash p : List ℕ) (fill next : ℕ) (failed : Bool) where
-  pub flush-none : fill ≡ 0 → running flash p 0 none failed ≡ flushed 64 (running flash p fill next failed)
+  pub flush-none : fill ≡ 0 → running flash p 0 nonePending failed ≡ flushed 64 (running flash p fill next failed)
   unfolding flushed
   flush-none h = rw (eq-eqb fill 0 h) refl
 
-  pub flush-rest : (fill ≡ 0 → ⊥) → (w : Run) → w ≡ pageOut 64 fill (running flash p fill next failed) → over w ≡ flushed 64 (running flash p fill next failed)
+  pub flush-rest : (fill ≡ 0 → ⊥) → (w : Run) → w ≡ pageOut 64 fill (running flash p fill next failed) →
+      runEnded w ≡ flushed 64 (running flash p fill next failed)
   unfolding flushed
   flush-rest h w e = rw (ne-eqb fill 0 h, e) refl
 
@@ -103,11 +104,12 @@ took-page w b = go (eqb (w .fill + 1) 64)
     go false = length-set (w .page) (w .fill) b
 
 -- no write changes the flash's length
-pub write-length : (page : ℕ) (f : List ℕ) (at : ℕ) (d : List ℕ) → length (writeOf page f at d .cells) ≡ length f
-unfolding writeOf
+pub write-length : (page : ℕ) (f : List ℕ) (at : ℕ) (d : List ℕ) → length (pageWritten page f at d .cells) ≡ length f
+unfolding pageWritten
 write-length page f at d = go (unaligned page at || ltb page (length d)) (ltb (length f) (at + length d))
   where
-    go : (s t : Bool) → length (pick s (leaves Stored.NotAligned f) (pick t (leaves Stored.OutOfBounds f) (leaves Stored.Done (written f at d))) .cells) ≡ length f
+    go : (s t : Bool) → length (pick s (leaves Stored.NotAligned f) (pick t (leaves Stored.OutOfBounds f) (leaves Stored.Done (written f at d))) .cells) ≡
+        length f
     go true t = refl
     go false true = refl
     go false false = written-length f at d
@@ -229,34 +231,35 @@ data-short f d l e =
     let n : length (drop 10 f) ≡ 54 = length-drop 10 f ∙ ap (λ (k : ℕ). k - 10) l in
     rw e (omega (arith, length-take (lenOf f) (drop 10 f)))
 
-module _ (f flash p d : List ℕ) (addr : ℕ) (a : addr ≡ addrOf f) (k : d ≡ dataOf f) (u : Run) (e : u ≡ poured 64 (running flash p (addr % 64) addr false) d) where
-  pub written-back : u .fill ≤ u .next
-  written-back =
-      let h : addr % 64 < 64 = omega arith in
-      let g : addr % 64 ≤ addr = omega arith in
-      rw e (poured-stands d (running flash p (addr % 64) addr false) (record { below = h; back = g }) .back)
+module _ (f flash p d : List ℕ) (addr : ℕ) (a : addr ≡ addrOf f) (k : d ≡ dataOf f) (u : Run) (e : u ≡ poured 64 (running flash p (addr % 64) addr false) d)
+  where
+    pub written-back : u .fill ≤ u .next
+    written-back =
+        let h : addr % 64 < 64 = omega arith in
+        let g : addr % 64 ≤ addr = omega arith in
+        rw e (poured-stands d (running flash p (addr % 64) addr false) (record { below = h; back = g }) .back)
 
-  module _ (b : Bool) (g : b ≡ bitSet 7 (flagsOf f)) where
-    pub written-flush : b ≡ true → (v : Run) → v ≡ flushed 64 u → v ≡ writtenOf 64 f (begin 64 f flash p)
-    unfolding writtenOf
-    written-flush h v z = z ∙ (rw (← g, h, e, k, a) refl)
+    module _ (b : Bool) (g : b ≡ bitSet 7 (flagsOf f)) where
+      pub written-flush : b ≡ true → (v : Run) → v ≡ flushed 64 u → v ≡ writtenOf 64 f (begin 64 f flash p)
+      unfolding writtenOf
+      written-flush h v z = z ∙ (rw (← g, h, e, k, a) refl)
 
-    pub written-on : b ≡ false → u ≡ writtenOf 64 f (begin 64 f flash p)
-    unfolding writtenOf
-    written-on h = rw (← g, h, e, k, a) refl
+      pub written-on : b ≡ false → u ≡ writtenOf 64 f (begin 64 f flash p)
+      unfolding writtenOf
+      written-on h = rw (← g, h, e, k, a) refl
 
 -- the three ends of a Write
 module _ (capacity : ℕ) (f flash p : List ℕ) (fill next : ℕ) (meta : List ℕ) where
-  pub write-idle : updating meta ≡ false → wroteTo Unsupported flash p fill next ≡ cmdWriteOf 64 capacity f flash p fill next meta
-  unfolding cmdWriteOf
+  pub write-idle : updating meta ≡ false → wroteTo Unsupported flash p fill next ≡ writeOf 64 capacity f flash p fill next meta
+  unfolding writeOf
   write-idle u = rw u refl
 
   module _ (u : updating meta ≡ true) where
-    pub write-astray : writeFits 64 capacity f next ≡ false → wroteTo AddrOutOfBounds flash p fill next ≡ cmdWriteOf 64 capacity f flash p fill next meta
-    unfolding cmdWriteOf
+    pub write-astray : writeFits 64 capacity f next ≡ false → wroteTo AddrOutOfBounds flash p fill next ≡ writeOf 64 capacity f flash p fill next meta
+    unfolding writeOf
     write-astray h = rw (u, h) refl
 
     pub write-done : writeFits 64 capacity f next ≡ true → (w : Run) → w ≡ writtenOf 64 f (begin 64 f flash p) → (s : ℕ) → s ≡ pick (w .failed) WriteError Ok →
-        wroteTo s (w .flash) (w .page) (w .fill) (w .next) ≡ cmdWriteOf 64 capacity f flash p fill next meta
-    unfolding cmdWriteOf
+        wroteTo s (w .flash) (w .page) (w .fill) (w .next) ≡ writeOf 64 capacity f flash p fill next meta
+    unfolding writeOf
     write-done h w e s k = rw (k, u, h, e) refl

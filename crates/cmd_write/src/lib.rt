@@ -1,8 +1,12 @@
 // Translated from tinyboot, lib/core/src/protocol.rs (MIT OR Apache-2.0); changed.
 
 use store_flash::storage;
+use store_flash::storage::NONE_PENDING;
+use store_flash::storage::PAGE_SIZE;
+use store_flash::storage::Page;
 use store_flash::storage::Stored;
 use store_record::boot_meta_store;
+use wire_frames::frame::FrameBytes;
 use wire_numbers::Status;
 use wire_numbers::WriteFlags;
 use wire_numbers::le;
@@ -13,14 +17,9 @@ ghost use lib.ListN.{length, take, drop};
 ghost use lib.Seq.{paste};
 ghost use Rattle.laws.specs.Pick.{pick};
 ghost use Rattle.wire_numbers.specs.Names.{statusNumber};
-ghost use Rattle.store_flash.specs.Flash.{storedNumber};
+ghost use Rattle.store_flash.specs.Flash.{storedNumber, nonePending};
 ghost use Rattle.wire_frames.specs.Fields.{dataOf, Ok, WriteError};
-ghost use Rattle.cmd_write.specs.Write.{none, running, fails, pageOut, poured, flushed, writeFits, begin, writtenOf, wroteTo, cmdWriteOf};
-
-// No write is pending: the next may start at any page.
-const ANY: u32 = 0xFFFF_FFFF;
-
-const PAGE: usize = 64;
+ghost use Rattle.cmd_write.specs.Write.{running, fails, pageOut, poured, flushed, writeFits, begin, writtenOf, wroteTo, writeOf};
 
 // How far a run is: how many bytes of the page are filled, the address of the next byte, and whether the storage refused a page.
 struct Run {
@@ -87,19 +86,19 @@ fn took(w: Run, d: &[u8], i: usize, m: usize, page: &mut [u8], flash: &mut [u8])
         next: w.next + m as u32,
         failed: w.failed,
     };
-    if more.fill == PAGE {
-        return page_out(more, PAGE, page, flash);
+    if more.fill == PAGE_SIZE {
+        return page_out(more, PAGE_SIZE, page, flash);
     }
     more
 }
 
 // The run ends: no write is pending.
 fn over(w: Run) -> Run
-    ensures { λ r. ⌜ (r .fill ≡ 0) × (r .next ≡ none) × (r .failed ≡ w .failed) ⌝ }
+    ensures { λ r. ⌜ (r .fill ≡ 0) × (r .next ≡ nonePending) × (r .failed ≡ w .failed) ⌝ }
 {
     Run {
         fill: 0,
-        next: ANY,
+        next: NONE_PENDING,
         failed: w.failed,
     }
 }
@@ -129,7 +128,7 @@ fn data_of<'a>(f: &'a [u8]) -> &'a [u8]
 }
 
 // Where a write may stand: with none pending at a page's start, else where the last one ended.
-fn fits(capacity: usize, f: &[u8; 64], next: u32) -> bool
+fn fits(capacity: usize, f: &FrameBytes, next: u32) -> bool
     ensures { λ r. ⌜ r ≡ writeFits 64 capacity (now (f .entry)) next ⌝ }
 {
     let addr = le::read24(f[4], f[5], f[6]);
@@ -137,8 +136,8 @@ fn fits(capacity: usize, f: &[u8; 64], next: u32) -> bool
     if capacity < addr as usize + len as usize {
         return false;
     }
-    if next == ANY {
-        return addr % 64 == 0;
+    if next == NONE_PENDING {
+        return addr as usize % PAGE_SIZE == 0;
     }
     addr == next
 }
@@ -157,10 +156,10 @@ fn room(fill: usize, n: usize) -> usize
     requires { ⌜ (fill < 64) × (0 < n) ⌝ }
     ensures { λ r. ⌜ (0 < r) × (fill + r ≤ 64) × (r ≤ n) ⌝ }
 {
-    if n <= PAGE - fill {
+    if n <= PAGE_SIZE - fill {
         return n;
     }
-    PAGE - fill
+    PAGE_SIZE - fill
 }
 
 // The data: what the page has room for, and then what is left.
@@ -187,7 +186,7 @@ fn written(f: &[u8], page: &mut [u8], flash: &mut [u8]) -> Run
 {
     let addr = le::read24(f[4], f[5], f[6]);
     let start = Run {
-        fill: addr as usize % PAGE,
+        fill: addr as usize % PAGE_SIZE,
         next: addr,
         failed: false,
     };
@@ -202,15 +201,15 @@ fn written(f: &[u8], page: &mut [u8], flash: &mut [u8]) -> Run
 // What is taken stays in the page until that is full, or until a Write ends the run. A refusal changes nothing.
 pub fn cmd_write(
     capacity: usize,
-    f: &[u8; 64],
-    page: &mut [u8; 64],
+    f: &FrameBytes,
+    page: &mut Page,
     fill: usize,
     next: u32,
     flash: &mut [u8],
     meta: &[u8],
 ) -> Ran
     ensures { λ r. ⌜ wroteTo (statusNumber (r .status)) (now (flash .exit)) (now (page .exit)) (r .fill) (r .next) ≡
-        cmdWriteOf 64 capacity (now (f .entry)) (now (flash .entry)) (now (page .entry)) fill next (now (meta .entry)) ⌝ }
+        writeOf 64 capacity (now (f .entry)) (now (flash .entry)) (now (page .entry)) fill next (now (meta .entry)) ⌝ }
 {
     if boot_meta_store::is_updating(meta) {
         if fits(capacity, f, next) {

@@ -13,7 +13,7 @@ use lib.Dec.{leb, eqb}
 use Rattle.wire_numbers.specs.Crc.{crcOf}
 use Rattle.store_record.specs.State.{stateRead, appPresent}
 use Rattle.store_record.specs.Record.{stateOf, trialsOf, checksumOf, sizeOf, trialAnswer, trialUsed}
-use Rattle.device_boot.specs.Start.{validOf, Clearance, clears, triedOf, clearedOf, Decision, stays, goesOn, startOf}
+use Rattle.device_boot.specs.Start.{validOf, Clearance, clears, triedOf, clearedOf, Decision, stays, checkedOf, startOf}
 
 module _ (capacity : ℕ) (flash meta : List ℕ) where
   pub valid-bare : checksumOf meta ≡ 0xFFFF → validOf capacity flash meta ≡ appPresent flash
@@ -24,7 +24,8 @@ module _ (capacity : ℕ) (flash meta : List ℕ) where
   unfolding validOf
   valid-long e h = simp (ne-eqb _ _ e, lt-leb _ _ h)
 
-  pub valid-crc : (checksumOf meta ≡ 0xFFFF → ⊥) → sizeOf meta ≤ capacity → validOf capacity flash meta ≡ eqb (crcOf (take (sizeOf meta) flash)) (checksumOf meta)
+  pub valid-crc : (checksumOf meta ≡ 0xFFFF → ⊥) → sizeOf meta ≤ capacity →
+      validOf capacity flash meta ≡ eqb (crcOf (take (sizeOf meta) flash)) (checksumOf meta)
   unfolding validOf
   valid-crc e h = simp (ne-eqb _ _ e, le-leb _ _ h)
 
@@ -80,12 +81,13 @@ module _ (capacity : ℕ) (flash meta : List ℕ) where
   start-judged b c e w v k = let x : clearedOf meta ≡ clears true c = sym (rw w at e) in rw (x, k) refl
 
 -- of the record nothing but the trials byte changes
-pub start-record : (capacity mode : ℕ) (flash meta : List ℕ) → (startOf capacity mode flash meta .meta ≡ meta) ⊎ (startOf capacity mode flash meta .meta ≡ trialUsed meta)
+pub start-record : (capacity mode : ℕ) (flash meta : List ℕ) →
+    (startOf capacity mode flash meta .meta ≡ meta) ⊎ (startOf capacity mode flash meta .meta ≡ trialUsed meta)
 unfolding startOf clearedOf triedOf
 start-record capacity mode flash meta =
     go (eqb mode 1) (eqb (stateRead (stateOf meta)) 0x7F) (eqb (stateRead (stateOf meta)) 0x3F) (eqb (trialsOf meta) 0)
   where
-    same : (c : Clearance) → goesOn capacity flash c .meta ≡ c .meta
+    same : (c : Clearance) → checkedOf capacity flash c .meta ≡ c .meta
     same c = either (c .clear && validOf capacity flash (c .meta))
       where
         either : (t : Bool) → pick t (record { mode = 0; meta = c .meta }) (stays (c .meta)) .meta ≡ c .meta
@@ -93,10 +95,11 @@ start-record capacity mode flash meta =
         either false = refl
 
     go : (asked updating validating none : Bool) →
-        (pick asked (stays meta) (goesOn capacity flash
+        (pick asked (stays meta) (checkedOf capacity flash
         (pick updating (clears false meta) (pick validating (pick none (clears false meta) (clears true (trialUsed meta))) (clears true meta)))) .meta ≡ meta) ⊎
-        (pick asked (stays meta) (goesOn capacity flash
-        (pick updating (clears false meta) (pick validating (pick none (clears false meta) (clears true (trialUsed meta))) (clears true meta)))) .meta ≡ trialUsed meta)
+        (pick asked (stays meta) (checkedOf capacity flash
+        (pick updating (clears false meta) (pick validating (pick none (clears false meta) (clears true (trialUsed meta))) (clears true meta)))) .meta ≡
+        trialUsed meta)
     go true u v n = inl refl
     go false true v n = inl (same (clears false meta))
     go false false true true = inl (same (clears false meta))

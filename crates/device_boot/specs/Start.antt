@@ -4,18 +4,18 @@ use mathlib.Core.Bool.{Bool, true, false, _&&_}
 use mathlib.Core.List.{List}
 use lib.ListN.{take}
 use lib.Dec.{leb, eqb}
-use Rattle.laws.specs.Pick.{pick}
+use Rattle.laws.specs.Pick.{if_then_else_}
 use Rattle.wire_numbers.specs.Crc.{crcOf}
 use Rattle.wire_numbers.specs.Names.{modeNumber}
 use Rattle.wire_numbers.specs.declared.RunMode.{RunMode}
-use Rattle.store_record.specs.State.{stateRead, appPresent}
-use Rattle.store_record.specs.Record.{stateOf, trialsOf, checksumOf, sizeOf, trialUsed}
+use Rattle.store_record.specs.State.{appPresent}
+use Rattle.store_record.specs.Record.{updating, validating, trialsOf, checksumOf, sizeOf, trialUsed}
 
 -- whether the image passes: with a checksum stored, a size within the capacity and the CRC of so many bytes; with none, the sign of an app
 unfoldable pub validOf : ℕ → List ℕ → List ℕ → Bool
 validOf capacity flash meta =
-    pick (eqb (checksumOf meta) 0xFFFF) (appPresent flash)
-    (leb (sizeOf meta) capacity && eqb (crcOf (take (sizeOf meta) flash)) (checksumOf meta))
+    if eqb (checksumOf meta) 0xFFFF then appPresent flash else
+    leb (sizeOf meta) capacity && eqb (crcOf (take (sizeOf meta) flash)) (checksumOf meta)
 
 -- whether a start goes on to the image, and the record afterwards
 pub record Clearance : Type 0 where
@@ -27,14 +27,14 @@ clears b m = record { clear = b; meta = m }
 
 -- a trial is used where one is left, also if the start then stays
 unfoldable pub triedOf : List ℕ → Clearance
-triedOf meta = pick (eqb (trialsOf meta) 0) (clears false meta) (clears true (trialUsed meta))
+triedOf meta = if eqb (trialsOf meta) 0 then clears false meta else clears true (trialUsed meta)
 
 -- Updating stays, Validating takes a trial, Idle goes on
 unfoldable pub clearedOf : List ℕ → Clearance
 clearedOf meta =
-    pick (eqb (stateRead (stateOf meta)) 0x7F) (clears false meta)
-    (pick (eqb (stateRead (stateOf meta)) 0x3F) (triedOf meta)
-    (clears true meta))
+    if updating meta then clears false meta else
+    if validating meta then triedOf meta else
+    clears true meta
 
 -- the decision, by the number of its mode (hand-off 0, Service 1), and the record afterwards
 pub record Decision : Type 0 where
@@ -48,9 +48,9 @@ abbrev pub stays : List ℕ → Decision
 stays m = record { mode = 1; meta = m }
 
 -- a start that goes on hands off to an image that passes
-abbrev pub goesOn : ℕ → List ℕ → Clearance → Decision
-goesOn capacity flash c = pick (c .clear && validOf capacity flash (c .meta)) (record { mode = 0; meta = c .meta }) (stays (c .meta))
+abbrev pub checkedOf : ℕ → List ℕ → Clearance → Decision
+checkedOf capacity flash c = if c .clear && validOf capacity flash (c .meta) then record { mode = 0; meta = c .meta } else stays (c .meta)
 
 -- Service where it is asked for
 unfoldable pub startOf : ℕ → ℕ → List ℕ → List ℕ → Decision
-startOf capacity mode flash meta = pick (eqb mode 1) (stays meta) (goesOn capacity flash (clearedOf meta))
+startOf capacity mode flash meta = if eqb mode 1 then stays meta else checkedOf capacity flash (clearedOf meta)

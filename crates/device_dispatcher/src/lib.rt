@@ -1,64 +1,80 @@
-// Translated from tinyboot, lib/core/src/protocol.rs (MIT OR Apache-2.0); changed: the reply is written into a lent room, the wait and the restart are
-// answers.
+// Translated from tinyboot, lib/core/src/protocol.rs (MIT OR Apache-2.0); changed: what the blocking dispatcher does to its platform is done to lent
+// arrays; the
+// reply is written into a lent room, the wait and the restart are answers.
 
 use cmd_select::MAX_UID_LEN;
 use cmd_select::Selected;
 use device_handler::Handled;
 use device_replies::Answer;
+use device_state::Numbers;
 use device_state::Setup;
+use store_flash::storage::Page;
+use wire_frames::frame::FrameBytes;
+use wire_frames::frame::Kind;
 use wire_numbers::Status;
 ghost use mathlib.Core.Path.{_≡_};
 ghost use mathlib.Core.Bool.{Bool, true};
 ghost use mathlib.Core.List.{List};
-ghost use Prim.Native.Nat.{ℕ};
 ghost use lib.Dec.{eqb};
-ghost use lib.ListN.{length, take};
+ghost use lib.ListN.{length};
 ghost use Rattle.laws.specs.Pick.{pick};
 ghost use Rattle.wire_numbers.specs.Names.{statusNumber};
 ghost use Rattle.wire_frames.specs.Fields.{cmdOf};
+ghost use Rattle.wire_frames.specs.Reading.{kindStatus};
 ghost use Rattle.cmd_select.specs.Select.{selectOf};
-ghost use Rattle.device_handler.specs.Handling.{held, handledTo};
-ghost use Rattle.device_dispatcher.specs.Dispatch.{endedTo, mutedTo, chosen, dispatchOf, turned, doneOf};
+ghost use Prim.Native.Nat.{ℕ};
+ghost use Rattle.wire_frames.specs.declared.frame.Kind.{Kind};
+ghost use Rattle.device_state.specs.declared.Numbers.{Numbers};
+ghost use Rattle.device_state.specs.State.{world, selectedSet, closedSet};
+ghost use Rattle.device_handler.specs.Inner.{handledTo};
+ghost use Rattle.device_dispatcher.specs.Dispatch.{good, overheard, idOf, chosen, dispatchOf};
+ghost use Rattle.device_dispatcher.specs.Inner.{endedTo, mutedTo, turned, doneOf};
 
 // What the end of a frame leaves beside what it is lent.
 pub struct Dispatched {
     pub answer: Answer,
-    pub fill: usize,
-    pub next: u32,
-    pub selected: bool,
-    pub closed: bool,
+    pub numbers: Numbers,
 }
 
-// Another device's reply.
-fn is_request(status: Status) -> bool
-    ensures { λ r. ⌜ r ≡ eqb (statusNumber status) 0 ⌝ }
+fn is_good(kind: Kind) -> bool
+    ensures { λ r. ⌜ r ≡ good kind ⌝ }
 {
-    status.to_u8() == 0
-}
-
-// A Select that matches selects; no other reply changes that.
-fn either(chosen: bool, on: bool) -> bool
-    ensures { λ r. ⌜ r ≡ pick chosen true on ⌝ }
-{
-    if chosen {
-        return true;
-    }
-    on
-}
-
-fn mute(fill: usize, next: u32, on: bool) -> Dispatched
-    ensures { λ r. ⌜ r ≡ mutedTo fill next on ⌝ }
-{
-    Dispatched {
-        answer: Answer::Silent,
-        fill: fill,
-        next: next,
-        selected: on,
-        closed: false,
+    match kind {
+        Kind::Unsupported => false,
+        Kind::PayloadOverflow => false,
+        Kind::Overheard => false,
+        Kind::CrcMismatch => false,
+        Kind::Good => true,
     }
 }
 
-fn is_select(f: &[u8; 64]) -> bool
+// Whether a frame is another device's reply.
+fn is_overheard(kind: Kind) -> bool
+    ensures { λ r. ⌜ r ≡ overheard kind ⌝ }
+{
+    match kind {
+        Kind::Unsupported => false,
+        Kind::PayloadOverflow => false,
+        Kind::Overheard => true,
+        Kind::CrcMismatch => false,
+        Kind::Good => false,
+    }
+}
+
+// The status that tells how a frame ended.
+fn status_of(kind: Kind) -> Status
+    ensures { λ r. ⌜ statusNumber r ≡ kindStatus kind ⌝ }
+{
+    match kind {
+        Kind::Unsupported => Status::Unsupported,
+        Kind::PayloadOverflow => Status::PayloadOverflow,
+        Kind::Overheard => Status::Request,
+        Kind::CrcMismatch => Status::CrcMismatch,
+        Kind::Good => Status::Ok,
+    }
+}
+
+fn is_select(f: &FrameBytes) -> bool
     ensures { λ r. ⌜ r ≡ eqb (cmdOf (now (f .entry))) 5 ⌝ }
 {
     f[2] == 5
@@ -66,12 +82,47 @@ fn is_select(f: &[u8; 64]) -> bool
 
 // The id's length, as a frame has it; a length above 16 means all 16 bytes.
 fn id_len(setup: Setup) -> u16
-    ensures { λ r. ⌜ r ≡ length (take (setup .«id_len») (setup .id)) ⌝ }
+    ensures { λ r. ⌜ r ≡ length (idOf setup) ⌝ }
 {
     if setup.id_len < MAX_UID_LEN {
         return setup.id_len as u16;
     }
     16
+}
+
+fn selecting(n: Numbers, on: bool) -> Numbers
+    ensures { λ r. ⌜ r ≡ selectedSet on n ⌝ }
+{
+    let mut m = n;
+    m.selected = on;
+    m
+}
+
+// A Select that matches selects; no other reply changes that.
+fn picked(n: Numbers, chosen: bool) -> Numbers
+    ensures { λ r. ⌜ r ≡ selectedSet (pick chosen true (n .selected)) n ⌝ }
+{
+    if chosen {
+        return selecting(n, true);
+    }
+    n
+}
+
+fn closing(n: Numbers, closed: bool) -> Numbers
+    ensures { λ r. ⌜ r ≡ closedSet closed n ⌝ }
+{
+    let mut m = n;
+    m.closed = closed;
+    m
+}
+
+fn mute(n: Numbers, on: bool) -> Dispatched
+    ensures { λ r. ⌜ r ≡ mutedTo n on ⌝ }
+{
+    Dispatched {
+        answer: Answer::Silent,
+        numbers: selecting(n, on),
+    }
 }
 
 // What a frame that has ended calls for: silence, and whether the device is selected after it; or a reply after a wait, to a Select that matches or to
@@ -82,10 +133,10 @@ enum Turn {
 }
 
 // Match or not, the id is in the data area afterwards.
-fn select(setup: Setup, f: &mut [u8; 64]) -> Turn
-    ensures { λ r. ⌜ ((status : ℕ) (p : List ℕ) (fill next : ℕ) (flash meta : List ℕ) (on : Bool) (room : List ℕ) →
-        turned 52 64 setup status (held (now (f .exit)) p fill next flash meta) on room r ≡
-        chosen 52 (length (take (setup .«id_len») (setup .id))) (held (now (f .entry)) p fill next flash meta) room (selectOf (take (setup .«id_len») (setup .id)) (now (f .entry)))) ⌝ }
+fn select(setup: Setup, f: &mut FrameBytes) -> Turn
+    ensures { λ r. ⌜ ((kind : Kind) (p : List ℕ) (n : Numbers) (flash meta room : List ℕ) →
+        turned 52 64 setup kind (world (now (f .exit)) p n flash meta) room r ≡
+        chosen 52 (length (idOf setup)) (world (now (f .entry)) p n flash meta) room (selectOf (idOf setup) (now (f .entry)))) ⌝ }
 {
     let id = setup.id;
     let choice = cmd_select::select(id, setup.id_len, f);
@@ -99,13 +150,14 @@ fn select(setup: Setup, f: &mut [u8; 64]) -> Turn
 }
 
 // An unaddressed device replies to all but another's reply; an addressed one to a Select that matches it and, while selected, to other requests.
-fn decide(setup: Setup, status: Status, f: &mut [u8; 64], on: bool) -> Turn
-    ensures { λ r. ⌜ ((p : List ℕ) (fill next : ℕ) (flash meta room : List ℕ) →
-        turned 52 64 setup (statusNumber status) (held (now (f .exit)) p fill next flash meta) on room r ≡
-        dispatchOf 52 64 setup (statusNumber status) (held (now (f .entry)) p fill next flash meta) on room) ⌝ }
+fn decide(setup: Setup, kind: Kind, f: &mut FrameBytes, n: Numbers) -> Turn
+    ensures { λ r. ⌜ ((p flash meta room : List ℕ) →
+        turned 52 64 setup kind (world (now (f .exit)) p n flash meta) room r ≡
+        dispatchOf 52 64 setup kind (world (now (f .entry)) p n flash meta) room) ⌝ }
 {
+    let on = n.selected;
     if setup.id_len == 0 {
-        if is_request(status) {
+        if is_overheard(kind) {
             return Turn::Silent { selected: on };
         }
         return Turn::Reply {
@@ -113,7 +165,7 @@ fn decide(setup: Setup, status: Status, f: &mut [u8; 64], on: bool) -> Turn
             wait: 0,
         };
     }
-    if !device_handler::is_ok(status) {
+    if !is_good(kind) {
         return Turn::Silent { selected: on };
     }
     if is_select(f) {
@@ -132,55 +184,51 @@ fn decide(setup: Setup, status: Status, f: &mut [u8; 64], on: bool) -> Turn
 fn done(
     chosen: bool,
     setup: Setup,
-    status: Status,
-    f: &mut [u8; 64],
-    page: &mut [u8; 64],
-    fill: usize,
-    next: u32,
+    kind: Kind,
+    f: &mut FrameBytes,
+    page: &mut Page,
+    n: Numbers,
     flash: &mut [u8],
     meta: &mut [u8],
 ) -> Handled
     ensures { λ r. ⌜ handledTo r (now (f .exit)) (now (page .exit)) (now (flash .exit)) (now (meta .exit)) ≡
-        doneOf 52 64 setup (statusNumber status) (held (now (f .entry)) (now (page .entry)) fill next (now (flash .entry)) (now (meta .entry))) chosen ⌝ }
+        doneOf 52 64 setup kind (world (now (f .entry)) (now (page .entry)) n (now (flash .entry)) (now (meta .entry))) chosen ⌝ }
 {
     if chosen {
-        return device_handler::loaded(id_len(setup), fill, next);
+        return device_handler::loaded(id_len(setup), n);
     }
-    if device_handler::is_ok(status) {
-        return device_handler::handle(setup, f, page, fill, next, flash, meta);
+    if is_good(kind) {
+        return device_handler::handle(setup, f, page, n, flash, meta);
     }
-    device_handler::bare(status, fill, next)
+    device_handler::bare(status_of(kind), n)
 }
 
-// A frame that has ended, of which the reader says this.
+// A frame that has ended in this way.
 pub fn dispatch(
     setup: Setup,
-    status: Status,
-    f: &mut [u8; 64],
-    page: &mut [u8; 64],
-    fill: usize,
-    next: u32,
-    on: bool,
+    kind: Kind,
+    f: &mut FrameBytes,
+    page: &mut Page,
+    n: Numbers,
     flash: &mut [u8],
     meta: &mut [u8],
     room: &mut [u8],
 ) -> Dispatched
     ensures { λ r. ⌜ endedTo r (now (f .exit)) (now (page .exit)) (now (flash .exit)) (now (meta .exit)) (now (room .exit)) ≡
-        dispatchOf 52 64 setup (statusNumber status) (held (now (f .entry)) (now (page .entry)) fill next (now (flash .entry)) (now (meta .entry))) on (now (room .entry)) ⌝ }
+        dispatchOf 52 64 setup kind (world (now (f .entry)) (now (page .entry)) n (now (flash .entry)) (now (meta .entry))) (now (room .entry)) ⌝ }
 {
-    let t = decide(setup, status, f, on);
+    let t = decide(setup, kind, f, n);
     match t {
-        Turn::Silent { selected } => mute(fill, next, selected),
+        Turn::Silent { selected } => mute(n, selected),
         Turn::Reply { chosen, wait } => {
-            let h = done(chosen, setup, status, f, page, fill, next, flash, meta);
+            let m = picked(n, chosen);
+            let h = done(chosen, setup, kind, f, page, m, flash, meta);
             let said = h.status;
             let a = device_replies::reply(said, h.len, h.restart, wait, f, room);
+            let left = h.numbers;
             Dispatched {
                 answer: a,
-                fill: h.fill,
-                next: h.next,
-                selected: either(chosen, on),
-                closed: h.restart,
+                numbers: closing(left, h.restart),
             }
         }
     }

@@ -7,18 +7,19 @@ use Rattle.wire_sender.specs.Sent.{sealed, sendOf}
 use Rattle.cmd_select.specs.Select.{agree, matches, slotOf, copied, selectOf}
 use Rattle.store_record.specs.State.{stateRead, appPresent}
 use Rattle.cmd_info.specs.Info.{appVersion, infoOf}
-use Rattle.device_state.specs.Refusals.{eraseFits, capacityFits, setUp, runFits, wellFormed, lengthsOf, refusalOf}
+use Rattle.device_state.specs.Refusals.{eraseSizeFits, capacityFits, fits, runFits, wellFormed, lengthsOf, refusalOf}
 use Rattle.device_handler.specs.Handling.{handledOf}
 use Rattle.device_replies.specs.Reply.{replyOf}
-use Rattle.device_dispatcher.specs.Dispatch.{answeredOf, obeyedOf, unaddressedOf, addressedOf, dispatchOf}
+use Rattle.device_dispatcher.specs.Dispatch.{answeredOf, obeyedOf, dispatchOf}
 use Rattle.device_feed.specs.Feed.{afterRead, takenOf, fedOf}
 
 -- a frame: its reading, Info, Select, and its reply
 unfoldable pub frame-rules : Type 0
-unfolding begun store hunt started verdictOf overhears checked dispatchOf unaddressedOf addressedOf obeyedOf handledOf answeredOf replyOf sendOf sealed infoOf appVersion stateRead appPresent selectOf matches agree slotOf copied crcFrom bitsOf bits entered fold
+unfolding begun store hunt started verdictOf overhears checked dispatchOf obeyedOf handledOf answeredOf replyOf sendOf sealed infoOf appVersion stateRead
+    appPresent selectOf matches agree slotOf copied crcFrom bitsOf bits entered fold
 frame-rules = Unit {0}
 
 -- a call: its refusals, and its frame
 unfoldable pub call-rules : Type 0
-unfolding frame-rules fedOf takenOf afterRead refusalOf setUp eraseFits capacityFits wellFormed runFits lengthsOf wellOf
+unfolding frame-rules fedOf takenOf afterRead refusalOf fits eraseSizeFits capacityFits wellFormed runFits lengthsOf wellOf
 call-rules = Unit {0}

@@ -1,22 +1,23 @@
 // Ours: the Rust's dispatcher reads from the wire until a frame has ended; this one is handed the bytes as they come, and answers what is to be done.
 
 use device_replies::Answer;
+use device_state::Numbers;
 use device_state::Setup;
 use device_state::State;
 use device_state::refusal;
 use device_state::refusal::Refusal;
+use store_flash::storage::Page;
+use wire_frames::frame::FrameBytes;
+use wire_frames::frame::Kind;
 use wire_frames::frame::Stop;
-use wire_numbers::Status;
 ghost use mathlib.Core.Path.{_≡_};
 ghost use mathlib.Core.Bool.{true, false};
-ghost use lib.Dec.{eqb};
-ghost use lib.ListN.{length};
-ghost use Rattle.wire_numbers.specs.Names.{statusNumber};
 ghost use Rattle.wire_frames.specs.Stored.{wellOf, saidOf};
-ghost use Rattle.device_state.specs.Refusals.{refusalNumber, refusalOf};
+ghost use Rattle.device_state.specs.Refusals.{refusalNumber};
+ghost use Rattle.device_state.specs.State.{world, gotSet};
 ghost use Rattle.device_replies.specs.Answers.{mute, toldOf};
-ghost use Rattle.device_state.specs.State.{stateWith};
-ghost use Rattle.device_feed.specs.Feed.{passedWith, passedTo, fedTo, takenOf, fedOf};
+ghost use Rattle.device_feed.specs.Feed.{takenOf, fedOf};
+ghost use Rattle.device_feed.specs.Inner.{passedTo, fedTo, going, kindOf};
 
 // The state afterwards, how many bytes of the piece were taken, and what the call says.
 pub struct Fed {
@@ -27,35 +28,9 @@ pub struct Fed {
 
 // The same where the state's arrays are lent: what they do not hold.
 pub struct Passed {
-    pub got: usize,
-    pub fill: usize,
-    pub next: u32,
-    pub selected: bool,
-    pub closed: bool,
+    pub numbers: Numbers,
     pub taken: usize,
     pub answer: Answer,
-}
-
-pub fn after(
-    got: usize,
-    fill: usize,
-    next: u32,
-    selected: bool,
-    closed: bool,
-    taken: usize,
-    answer: Answer,
-) -> Passed
-    ensures { λ r. ⌜ r ≡ passedWith got fill next selected closed taken answer ⌝ }
-{
-    Passed {
-        got: got,
-        fill: fill,
-        next: next,
-        selected: selected,
-        closed: closed,
-        taken: taken,
-        answer: answer,
-    }
 }
 
 // The answer that is this refusal.
@@ -75,7 +50,7 @@ pub fn refused(refusal: Refusal) -> Answer
 
 // Whether no frame has ended.
 pub fn is_going(stop: Stop) -> bool
-    ensures { λ r. ⌜ r ≡ eqb (saidOf stop .number) 0 ⌝ }
+    ensures { λ r. ⌜ r ≡ going (saidOf stop) ⌝ }
 {
     match stop {
         Stop::Refused => false,
@@ -88,122 +63,89 @@ pub fn is_going(stop: Stop) -> bool
     }
 }
 
-// What the reader says of a frame, as the Rust's answers it: Request is another device's reply.
-pub fn status_of(stop: Stop) -> Status
-    ensures { λ r. ⌜ statusNumber r ≡ saidOf stop .status ⌝ }
+// How a frame has ended.
+pub fn kind_of(stop: Stop) -> Kind
+    ensures { λ r. ⌜ r ≡ kindOf (saidOf stop) ⌝ }
 {
     match stop {
-        Stop::Refused => Status::Request,
-        Stop::Going => Status::Request,
-        Stop::Unsupported => Status::Unsupported,
-        Stop::PayloadOverflow => Status::PayloadOverflow,
-        Stop::Overheard => Status::Request,
-        Stop::CrcMismatch => Status::CrcMismatch,
-        Stop::Good => Status::Ok,
+        Stop::Refused => Kind::Overheard,
+        Stop::Going => Kind::Overheard,
+        Stop::Unsupported => Kind::Unsupported,
+        Stop::PayloadOverflow => Kind::PayloadOverflow,
+        Stop::Overheard => Kind::Overheard,
+        Stop::CrcMismatch => Kind::CrcMismatch,
+        Stop::Good => Kind::Good,
     }
+}
+
+// The numbers once so many bytes of a frame have begun.
+pub fn begun(n: Numbers, got: usize) -> Numbers
+    ensures { λ r. ⌜ r ≡ gotSet got n ⌝ }
+{
+    let mut m = n;
+    m.got = got;
+    m
 }
 
 // A call that is not refused.
 fn pass(
     setup: Setup,
-    f: &mut [u8; 64],
-    got: usize,
-    page: &mut [u8; 64],
-    fill: usize,
-    next: u32,
-    selected: bool,
+    n: Numbers,
+    f: &mut FrameBytes,
+    page: &mut Page,
     bytes: &[u8],
     flash: &mut [u8],
     meta: &mut [u8],
     reply: &mut [u8],
 ) -> Passed
-    requires { ⌜ wellOf 52 true (now f) got ≡ true ⌝ }
+    requires { ⌜ wellOf 52 true (now f) (n .got) ≡ true ⌝ }
     ensures { λ r. ⌜ passedTo r (now (f .exit)) (now (page .exit)) (now (flash .exit)) (now (meta .exit)) (now (reply .exit)) ≡
-        takenOf 52 64 setup (stateWith (now (f .entry)) got (now (page .entry)) fill next selected false) (now (bytes .entry)) (now (flash .entry)) (now (meta .entry)) (now (reply .entry)) ⌝ }
+        takenOf 52 64 setup (world (now (f .entry)) (now (page .entry)) n (now (flash .entry)) (now (meta .entry))) (now (bytes .entry)) (now (reply .entry))
+        ⌝ }
 {
-    let p = wire_reader::read_in(f, got, true, bytes);
+    let p = wire_reader::read_in(f, n.got, true, bytes);
     let stop = p.stop;
+    let m = begun(n, p.got);
     if is_going(stop) {
-        return after(p.got, fill, next, selected, false, p.taken, Answer::Quiet);
+        return Passed {
+            numbers: m,
+            taken: p.taken,
+            answer: Answer::Quiet,
+        };
     }
-    let d = device_dispatcher::dispatch(
-        setup,
-        status_of(stop),
-        f,
-        page,
-        fill,
-        next,
-        selected,
-        flash,
-        meta,
-        reply,
-    );
+    let d = device_dispatcher::dispatch(setup, kind_of(stop), f, page, m, flash, meta, reply);
+    let left = d.numbers;
     let answer = d.answer;
-    after(0, d.fill, d.next, d.selected, d.closed, p.taken, answer)
-}
-
-// The refusal that a call gives, if any, of what is lent to it.
-fn refusal_of(
-    setup: Setup,
-    f: &[u8; 64],
-    got: usize,
-    fill: usize,
-    next: u32,
-    closed: bool,
-    flash: &[u8],
-    meta: &[u8],
-    reply: &[u8],
-) -> Refusal
-    ensures { λ r. ⌜ refusalNumber r ≡ refusalOf 52 64 setup (now (f .entry)) got fill next closed (length (now (flash .entry))) (length (now (meta .entry))) (length (now (reply .entry))) ⌝ }
-{
-    refusal::refuses(
-        setup,
-        f,
-        got,
-        fill,
-        next,
-        closed,
-        flash.len(),
-        meta.len(),
-        reply.len(),
-    )
+    Passed {
+        numbers: left,
+        taken: p.taken,
+        answer: answer,
+    }
 }
 
 // `feed` with the state's two arrays lent and its numbers beside them: for who keeps a state in place and feeds it byte by byte.
 pub fn feed_in(
     setup: Setup,
-    got: usize,
-    fill: usize,
-    next: u32,
-    selected: bool,
-    closed: bool,
-    f: &mut [u8; 64],
-    page: &mut [u8; 64],
+    n: Numbers,
+    f: &mut FrameBytes,
+    page: &mut Page,
     bytes: &[u8],
     flash: &mut [u8],
     meta: &mut [u8],
     reply: &mut [u8],
 ) -> Passed
     ensures { λ r. ⌜ passedTo r (now (f .exit)) (now (page .exit)) (now (flash .exit)) (now (meta .exit)) (now (reply .exit)) ≡
-        fedOf 52 64 setup (stateWith (now (f .entry)) got (now (page .entry)) fill next selected closed) (now (bytes .entry)) (now (flash .entry)) (now (meta .entry)) (now (reply .entry)) ⌝ }
+        fedOf 52 64 setup (world (now (f .entry)) (now (page .entry)) n (now (flash .entry)) (now (meta .entry))) (now (bytes .entry)) (now (reply .entry)) ⌝ }
 {
-    let refusal = refusal_of(setup, f, got, fill, next, closed, flash, meta, reply);
+    let refusal = refusal::refuses(setup, f, n, flash.len(), meta.len(), reply.len());
     if refusal.is_none() {
-        return pass(
-            setup,
-            f,
-            got,
-            page,
-            fill,
-            next,
-            selected,
-            bytes,
-            flash,
-            meta,
-            reply,
-        );
+        return pass(setup, n, f, page, bytes, flash, meta, reply);
     }
-    after(got, fill, next, selected, closed, 0, refused(refusal))
+    Passed {
+        numbers: n,
+        taken: 0,
+        answer: refused(refusal),
+    }
 }
 
 // Takes the bytes of a piece up to the end of the first frame in it, carries that frame out on the flash and the record, and writes its reply into the
@@ -218,33 +160,20 @@ pub fn feed(
     reply: &mut [u8],
 ) -> Fed
     ensures { λ r. ⌜ fedTo r (now (flash .exit)) (now (meta .exit)) (now (reply .exit)) ≡
-        fedOf 52 64 setup state (now (bytes .entry)) (now (flash .entry)) (now (meta .entry)) (now (reply .entry)) ⌝ }
+        fedOf 52 64 setup (record { state = state; flash = now (flash .entry); meta = now (meta .entry) }) (now (bytes .entry)) (now (reply .entry)) ⌝ }
 {
-    let mut s = state;
-    let mut frame = s.frame;
-    let r = feed_in(
-        setup,
-        frame.got,
-        s.fill,
-        s.next,
-        s.selected,
-        s.closed,
-        &mut frame.bytes,
-        &mut s.page,
-        bytes,
-        flash,
-        meta,
-        reply,
-    );
-    frame.got = r.got;
-    s.frame = frame;
-    s.fill = r.fill;
-    s.next = r.next;
-    s.selected = r.selected;
-    s.closed = r.closed;
+    let mut f = state.frame;
+    let mut page = state.page;
+    let n = state.numbers;
+    let r = feed_in(setup, n, &mut f, &mut page, bytes, flash, meta, reply);
+    let left = r.numbers;
     let answer = r.answer;
     Fed {
-        state: s,
+        state: State {
+            frame: f,
+            page: page,
+            numbers: left,
+        },
         taken: r.taken,
         answer: answer,
     }

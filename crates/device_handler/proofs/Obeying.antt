@@ -12,7 +12,8 @@ use Rattle.wire_numbers.specs.Names.{cmdLookup}
 use Rattle.wire_frames.specs.Fields.{Unsupported}
 use Rattle.cmd_verify.specs.Verify.{Verified}
 use Rattle.device_state.specs.declared.Setup.{Setup}
-use Rattle.device_handler.specs.Handling.{Held, held, Obeyed, bare, loaded, crcLaid, verified, handledBy}
+use Rattle.device_state.specs.State.{World, frameSet, metaSet}
+use Rattle.device_handler.specs.Handling.{Obeyed, bare, loaded, crcLaid, afterVerify, handledBy}
 
 -- a number that is found is that of its command
 pub found : (n b : ℕ) → some n ≡ cmdLookup b → n ≡ b
@@ -23,7 +24,7 @@ found n b e = go (leb b 5) e
     go false w = cc
 
 -- one that is not has no command, and is not supported
-pub unfound : (b cap page : ℕ) (s : Setup) (h : Held) → none ≡ cmdLookup b → bare Unsupported h ≡ handledBy b cap page s h
+pub unfound : (b cap page : ℕ) (s : Setup) (h : World) → none ≡ cmdLookup b → bare Unsupported h ≡ handledBy b cap page s h
 unfound b cap page s h e = go (leb b 5) refl
   where
     go : (t : Bool) → leb b 5 ≡ t → bare Unsupported h ≡ handledBy b cap page s h
@@ -38,9 +39,9 @@ unfound b cap page s h e = go (leb b 5) refl
           ne-eqb b 4 (λ k. omega arith),
         )
 
-module _ (h : Held) (x v : Verified) (k : x ≡ v) where
-  pub verify-replied : eqb (x .status) 1 ≡ true → loaded 2 (held (crcLaid (x .crc) (h .bytes)) (h .page) (h .fill) (h .next) (h .flash) (x .meta)) ≡ verified h v
-  verify-replied w = simp w at (ap (verified h) k)
+module _ (h : World) (x v : Verified) (k : x ≡ v) where
+  pub verify-replied : eqb (x .status) 1 ≡ true → loaded 2 (frameSet (crcLaid (x .crc) (h .state .frame)) (metaSet (x .meta) h)) ≡ afterVerify h v
+  verify-replied w = simp w at (ap (afterVerify h) k)
 
-  pub verify-refused : eqb (x .status) 1 ≡ false → bare (x .status) (held (h .bytes) (h .page) (h .fill) (h .next) (h .flash) (x .meta)) ≡ verified h v
-  verify-refused w = simp w at (ap (verified h) k)
+  pub verify-refused : eqb (x .status) 1 ≡ false → bare (x .status) (metaSet (x .meta) h) ≡ afterVerify h v
+  verify-refused w = simp w at (ap (afterVerify h) k)

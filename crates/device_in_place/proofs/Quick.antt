@@ -14,12 +14,13 @@ use Rattle.laws.proofs.Lists.{take-set}
 use Rattle.wire_frames.specs.Stored.{wellOf, Read, quiet, readOf, partOf}
 use Rattle.wire_frames.proofs.Parts.{part-of-whole}
 use Rattle.device_state.specs.declared.Setup.{Setup}
+use Rattle.device_state.specs.declared.Numbers.{Numbers}
 use Rattle.device_state.specs.Refusals.{setUp, runFits, wellFormed, lengthsOf, refusalOf}
 use Rattle.device_replies.specs.Answers.{mute}
-use Rattle.device_state.specs.State.{stateWith}
+use Rattle.device_state.specs.State.{gotSet}
 use Rattle.device_feed.specs.Feed.{Called, fedOf}
-use Rattle.device_feed.proofs.Feeding.{Allowed, allowed, call-quiet, call-taken}
-use Rattle.device_in_place.specs.On.{frameIn, pageIn, stateIn}
+use Rattle.device_feed.proofs.Feeding.{call-quiet, call-taken}
+use Rattle.device_in_place.specs.On.{frameIn, pageIn, worldIn}
 use Rattle.device_in_place.specs.Byte.{plainAt, Laid, laidTo, layByteOf, clearOf, byteOn}
 use Rattle.device_in_place.proofs.Plain.{plain-within, plain-read}
 
@@ -33,12 +34,12 @@ pub clear-none : (a d : Bool) → a ≡ false → false ≡ a && d
 clear-none a d x = rw x refl
 
 -- the cases of the call
-module _ (erase capacity idLen got fill next : ℕ) (closed : Bool) (s : List ℕ) (b flash meta room : ℕ) where
+module _ (erase capacity idLen : ℕ) (n : Numbers) (s : List ℕ) (b flash meta room : ℕ) where
   abbrev test : Bool
-  test = clearOf 52 64 erase capacity idLen fill next closed flash meta room
+  test = clearOf 52 64 erase capacity idLen n flash meta room
 
   abbrev call : Laid
-  call = byteOn 52 64 erase capacity idLen got fill next closed s b flash meta room
+  call = byteOn 52 64 erase capacity idLen n s b flash meta room
 
   abbrev frame : List ℕ
   frame = frameIn 52 s
@@ -56,31 +57,31 @@ module _ (erase capacity idLen got fill next : ℕ) (closed : Bool) (s : List �
       go false e = rw e refl
 
   module _ (h : 128 ≤ length s) where
-    tried : test ≡ true → call ≡ laidTo (layByteOf 52 true frame got b .done) (pick (layByteOf 52 true frame got b .done) (set s got b) s)
+    tried : test ≡ true → call ≡ laidTo (layByteOf 52 true frame (n .got) b .done) (pick (layByteOf 52 true frame (n .got) b .done) (set s (n .got) b) s)
     unfolding byteOn
     tried w = rw (le-leb 128 (length s) h, w) refl
 
     kept : frame ++ drop 64 s ≡ s
     kept = take-append-drop 64 s
 
-    laid : got < 64 → set frame got b ++ drop 64 s ≡ set s got b
+    laid : (n .got) < 64 → set frame (n .got) b ++ drop 64 s ≡ set s (n .got) b
     laid i =
-        let n : length frame ≡ 64 = length-take-le 64 s (omega arith) in
-        sym (set-append-left frame (drop 64 s) got b (rw n i)) ∙ ap (λ (v : List ℕ). set v got b) kept
+        let m : length frame ≡ 64 = length-take-le 64 s (omega arith) in
+        sym (set-append-left frame (drop 64 s) (n .got) b (rw m i)) ∙ ap (λ (v : List ℕ). set v (n .got) b) kept
 
-    outcome : (t : Bool) → (t ≡ true → got < 64) → (l : Laid) → l ≡ pick t (laidTo true (set frame got b)) (laidTo false frame) →
-        laidTo (l .done) (l .bytes ++ drop 64 s) ≡ laidTo (l .done) (pick (l .done) (set s got b) s)
+    outcome : (t : Bool) → (t ≡ true → (n .got) < 64) → (l : Laid) → l ≡ pick t (laidTo true (set frame (n .got) b)) (laidTo false frame) →
+        laidTo (l .done) (l .bytes ++ drop 64 s) ≡ laidTo (l .done) (pick (l .done) (set s (n .got) b) s)
     outcome true k l e = rw e (ap (laidTo true) (laid (k refl)))
     outcome false k l e = rw e (ap (laidTo false) kept)
 
-    pub byte-tried : test ≡ true → (l : Laid) → l ≡ layByteOf 52 true frame got b → laidTo (l .done) (l .bytes ++ drop 64 s) ≡ call
+    pub byte-tried : test ≡ true → (l : Laid) → l ≡ layByteOf 52 true frame (n .got) b → laidTo (l .done) (l .bytes ++ drop 64 s) ≡ call
     unfolding layByteOf
     byte-tried w l e =
-        let begun : Bool = eqb (length frame) 64 && wellOf 52 true frame got in
-        let in-frame : begun && plainAt frame got ≡ true → got < 64 =
-        λ t. let two = and-both begun (plainAt frame got) t in plain-within 52 true frame got (two .0) (two .1) in
-        outcome (begun && plainAt frame got) in-frame l e ∙
-        ap (λ (v : Laid). laidTo (v .done) (pick (v .done) (set s got b) s)) e ∙ sym (tried w)
+        let begun : Bool = eqb (length frame) 64 && wellOf 52 true frame (n .got) in
+        let in-frame : begun && plainAt frame (n .got) ≡ true → (n .got) < 64 =
+        λ t. let two = and-both begun (plainAt frame (n .got)) t in plain-within 52 true frame (n .got) (two .0) (two .1) in
+        outcome (begun && plainAt frame (n .got)) in-frame l e ∙
+        ap (λ (v : Laid). laidTo (v .done) (pick (v .done) (set s (n .got) b) s)) e ∙ sym (tried w)
 
 -- what was laid was due
 laid-when : (t d : Bool) (x s s' : List ℕ) → laidTo true s' ≡ pick t (laidTo d (pick d x s)) (laidTo false s) → (t ≡ true) × (d ≡ true) × (s' ≡ x)
@@ -98,26 +99,29 @@ laid-not true false x s s' e = ap (λ (v : Laid). v .bytes) e
 laid-not false d x s s' e = ap (λ (v : Laid). v .bytes) e
 
 -- not taken, the byte leaves all as it was
-pub byte-kept : (erase capacity idLen got fill next : ℕ) (closed : Bool) (s : List ℕ) (b flash meta room : ℕ) (s' : List ℕ) →
-    laidTo false s' ≡ byteOn 52 64 erase capacity idLen got fill next closed s b flash meta room → s' ≡ s
+pub byte-kept : (erase capacity idLen : ℕ) (n : Numbers) (s : List ℕ) (b flash meta room : ℕ) (s' : List ℕ) →
+    laidTo false s' ≡ byteOn 52 64 erase capacity idLen n s b flash meta room → s' ≡ s
 unfolding byteOn
-byte-kept erase capacity idLen got fill next closed s b flash meta room s' e =
-    let d : Bool = layByteOf 52 true (frameIn 52 s) got b .done in
-    laid-not (leb 128 (length s) && clearOf 52 64 erase capacity idLen fill next closed flash meta room) d (set s got b) s s' e
+byte-kept erase capacity idLen n s b flash meta room s' e =
+    let d : Bool = layByteOf 52 true (frameIn 52 s) (n .got) b .done in
+    laid-not (leb 128 (length s) && clearOf 52 64 erase capacity idLen n flash meta room) d (set s (n .got) b) s s' e
 
-module _ (setup : Setup) (s : List ℕ) (got fill next : ℕ) (selected closed : Bool) (b flash meta room : ℕ) (s' : List ℕ)
-    (e : laidTo true s' ≡ byteOn 52 64 (setup .«erase_size») (setup .capacity) (setup .«id_len») got fill next closed s b flash meta room) where
+module _ (setup : Setup) (s : List ℕ) (n : Numbers) (b flash meta room : ℕ) (s' : List ℕ)
+    (e : laidTo true s' ≡ byteOn 52 64 (setup .«erase_size») (setup .capacity) (setup .«id_len») n s b flash meta room) where
   abbrev f : List ℕ
   f = frameIn 52 s
 
+  abbrev got : ℕ
+  got = n .got
+
   abbrev up : Bool
-  up = setUp 64 (setup .«erase_size») (setup .capacity) (setup .«id_len»)
+  up = setUp 64 setup
 
   abbrev run : Bool
-  run = runFits 64 (setup .capacity) fill next
+  run = runFits 64 (setup .capacity) (n .fill) (n .next)
 
   abbrev lengths : ℕ
-  lengths = lengthsOf 52 (setup .capacity) flash meta room closed
+  lengths = lengthsOf 52 (setup .capacity) flash meta room (n .closed)
 
   parts : (leb 128 (length s) && (up && (run && eqb lengths 0)) ≡ true) × (layByteOf 52 true f got b .done ≡ true) × (s' ≡ set s got b)
   unfolding byteOn
@@ -154,22 +158,19 @@ module _ (setup : Setup) (s : List ℕ) (got fill next : ℕ) (selected closed :
       let two = and-both run (eqb lengths 0) (one .1) in
       (one .0, two .0, eqb-true lengths 0 (two .1))
 
-  none : 0 ≡ refusalOf 52 64 setup f got fill next closed flash meta room
+  none : 0 ≡ refusalOf 52 64 setup f n flash meta room
   unfolding refusalOf wellFormed
   none = sym (simp (clear .0, clear .1, well) (clear .2))
-
-  ready-to : Allowed 52 f got closed
-  ready-to = allowed 52 64 setup f got fill next closed flash meta room 0 none true refl refl
 
   read : record { bytes = set f got b; got = got + 1; taken = 1; said = quiet } ≡ readOf 52 true f got (b ∷ [])
   read = sym (plain-read 52 true f got begins plain b) ∙ part-of-whole 52 true f got (b ∷ []) whole
 
   pub byte-fed : (fl me ro : List ℕ) → length fl ≡ flash → length me ≡ meta → length ro ≡ room →
-      record { told = mute 0; taken = 1; state = stateIn 52 64 s' (got + 1) fill next selected closed; flash = fl; meta = me; room = ro } ≡
-      fedOf 52 64 setup (stateIn 52 64 s got fill next selected closed) (b ∷ []) fl me ro
+      record { told = mute 0; taken = 1; left = worldIn 52 64 s' (gotSet (got + 1) n) fl me; room = ro } ≡
+      fedOf 52 64 setup (worldIn 52 64 s n fl me) (b ∷ []) ro
   byte-fed fl me ro ef em er =
       let fr : frameIn 52 s' ≡ set f got b = ap (take 64) byte-laid ∙ take-set 64 s got b byte-within in
       let pg : pageIn 52 64 s' ≡ pageIn 52 64 s = ap (λ (v : List ℕ). take 64 (drop 64 v)) byte-laid ∙ ap (take 64) (drop-set-lt 64 s got b byte-within) in
-      call-taken 52 64 setup f got (pageIn 52 64 s) fill next selected closed (b ∷ []) fl me ro 0 (rw (ef, em, er) none) true refl refl
-      (record { told = mute 0; taken = 1; state = stateIn 52 64 s' (got + 1) fill next selected closed; flash = fl; meta = me; room = ro })
-      (rw (fr, pg, ready-to .unclosed) (call-quiet 52 64 setup (stateIn 52 64 s got fill next selected false) (b ∷ []) fl me ro _ read well refl))
+      call-taken 52 64 setup (worldIn 52 64 s n fl me) (b ∷ []) ro 0 (rw (ef, em, er) none) true refl refl
+      (record { told = mute 0; taken = 1; left = worldIn 52 64 s' (gotSet (got + 1) n) fl me; room = ro })
+      (rw (fr, pg) (call-quiet 52 64 setup (worldIn 52 64 s n fl me) (b ∷ []) ro _ read well refl))

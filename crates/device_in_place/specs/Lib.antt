@@ -1,2 +1,3 @@
 pub mod On
 pub mod Byte
+pub mod Inner

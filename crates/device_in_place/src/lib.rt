@@ -1,18 +1,22 @@
-// `feed` on a state whose two arrays stand in one lent slice: the frame's 64 bytes first, then the page's 64. A frame is read in place, and only one that has
-// ended is taken out for the dispatcher: so a call on a few bytes copies nothing but these.
+// `feed` on a state whose two arrays stand in one lent slice: the frame's bytes first, then the page's. A frame is read in place, and only one that has ended
+// is taken out for the dispatcher: so a call on a few bytes copies nothing but these.
 
-use device_dispatcher::Dispatched;
 use device_feed::Passed;
-use device_feed::after;
+use device_feed::begun;
 use device_feed::is_going;
+use device_feed::kind_of;
 use device_feed::refused;
-use device_feed::status_of;
 use device_replies::Answer;
+use device_state::Numbers;
 use device_state::Setup;
 use device_state::refusal;
 use device_state::refusal::Refusal;
+use store_flash::storage::PAGE_SIZE;
+use store_flash::storage::Page;
 use wire_frames::frame;
-use wire_numbers::Status;
+use wire_frames::frame::FRAME;
+use wire_frames::frame::FrameBytes;
+use wire_frames::frame::Kind;
 use wire_numbers::le;
 ghost use mathlib.Core.Path.{_≡_};
 ghost use mathlib.Core.Bool.{true, false};
@@ -20,22 +24,24 @@ ghost use mathlib.Core.List.{_++_};
 ghost use Prim.Native.Nat.{_+_, _≤_};
 ghost use lib.ListN.{length, take, drop};
 ghost use lib.Seq.{paste};
-ghost use Rattle.wire_numbers.specs.Names.{statusNumber};
 ghost use Rattle.wire_frames.specs.Stored.{wellOf, seen, readOf};
-ghost use Rattle.device_state.specs.Refusals.{refusalNumber, refusalOf};
-ghost use Rattle.device_handler.specs.Handling.{held};
+ghost use Rattle.device_state.specs.Refusals.{wellFormed, refusalNumber, refusalOf};
 ghost use Rattle.device_dispatcher.specs.Dispatch.{dispatchOf};
-ghost use Rattle.device_feed.specs.Feed.{takenOf};
-ghost use Rattle.device_in_place.specs.On.{frameIn, pageIn, restIn, stateIn, endingOn, endBy, calledOn, onBy, fedOn};
+ghost use Rattle.device_feed.specs.Feed.{endedBy, takenOf};
+ghost use Rattle.device_in_place.specs.On.{restIn, worldIn, onBy, fedOn};
 ghost use Rattle.device_in_place.specs.Byte.{plainAt, laidTo, layByteOf, clearOf, byteOn};
+ghost use Rattle.device_in_place.specs.Inner.{calledOn};
+
+// Both arrays.
+const STATE: usize = FRAME + PAGE_SIZE;
 
 // The 64 bytes from a place on.
-fn fetch(s: &[u8], at: usize, a: &mut [u8; 64])
+fn fetch(s: &[u8], at: usize, a: &mut FrameBytes)
     requires { ⌜ (at + 64 ≤ length (now s)) × (length (now a) ≡ 64) ⌝ }
     ensures { λ r. ⌜ now (a .exit) ≡ take 64 (drop at (now (s .entry))) ⌝ }
 {
     let mut i: usize = 0;
-    while i < 64 {
+    while i < FRAME {
         a[i] = s[at + i];
         i += 1;
     }
@@ -47,62 +53,57 @@ fn lay(s: &mut [u8], at: usize, a: &[u8])
     ensures { λ r. ⌜ now (s .exit) ≡ paste (now (s .entry)) at (now (a .entry)) 64 ⌝ }
 {
     let mut i: usize = 0;
-    while i < 64 {
+    while i < FRAME {
         s[at + i] = a[i];
         i += 1;
     }
 }
 
-fn taken_out(s: &[u8], at: usize) -> [u8; 64]
+fn taken_out(s: &[u8], at: usize) -> FrameBytes
     requires { ⌜ at + 64 ≤ length (now s) ⌝ }
     ensures { λ r. ⌜ r ≡ take 64 (drop at (now (s .entry))) ⌝ }
 {
-    let mut a = [0u8; 64];
+    let mut a = [0u8; FRAME];
     fetch(s, at, &mut a);
     a
 }
 
 // Both arrays, laid where they were taken out.
-fn put_back(s: &mut [u8], f: &[u8; 64], page: &[u8; 64])
+fn put_back(s: &mut [u8], f: &FrameBytes, page: &Page)
     requires { ⌜ 128 ≤ length (now s) ⌝ }
     ensures { λ r. ⌜ now (s .exit) ≡ now (f .entry) ++ (now (page .entry) ++ restIn 52 64 (now (s .entry))) ⌝ }
 {
     lay(s, 0, f);
-    lay(s, 64, page);
+    lay(s, FRAME, page);
 }
 
-// A frame that has ended, carried out.
+// A frame that has ended in this way after so many bytes, carried out.
 fn ended(
     setup: Setup,
-    status: Status,
+    kind: Kind,
+    taken: usize,
+    n: Numbers,
     s: &mut [u8],
-    fill: usize,
-    next: u32,
-    on: bool,
     flash: &mut [u8],
     meta: &mut [u8],
     reply: &mut [u8],
-) -> Dispatched
+) -> Passed
     requires { ⌜ 128 ≤ length (now s) ⌝ }
-    ensures { λ r. ⌜ endingOn r (now (s .exit)) (now (flash .exit)) (now (meta .exit)) (now (reply .exit)) ≡
-        endBy (restIn 52 64 (now (s .entry))) (dispatchOf 52 64 setup (statusNumber status) (held (frameIn 52 (now (s .entry))) (pageIn 52 64 (now (s .entry))) fill next (now (flash .entry)) (now (meta .entry))) on (now (reply .entry))) ⌝ }
+    ensures { λ r. ⌜ calledOn r (now (s .exit)) (now (flash .exit)) (now (meta .exit)) (now (reply .exit)) ≡
+        onBy (restIn 52 64 (now (s .entry)))
+        (endedBy taken (dispatchOf 52 64 setup kind (worldIn 52 64 (now (s .entry)) n (now (flash .entry)) (now (meta .entry))) (now (reply .entry)))) ⌝ }
 {
     let mut f = taken_out(s, 0);
-    let mut page = taken_out(s, 64);
-    let d = device_dispatcher::dispatch(
-        setup,
-        status,
-        &mut f,
-        &mut page,
-        fill,
-        next,
-        on,
-        flash,
-        meta,
-        reply,
-    );
+    let mut page = taken_out(s, FRAME);
+    let d = device_dispatcher::dispatch(setup, kind, &mut f, &mut page, n, flash, meta, reply);
     put_back(s, &f, &page);
-    d
+    let left = d.numbers;
+    let answer = d.answer;
+    Passed {
+        numbers: left,
+        taken: taken,
+        answer: answer,
+    }
 }
 
 fn read(s: &mut [u8], got: usize, bytes: &[u8]) -> frame::Passed
@@ -110,80 +111,66 @@ fn read(s: &mut [u8], got: usize, bytes: &[u8]) -> frame::Passed
     ensures { λ r. ⌜ (seen (take 64 (now (s .exit))) (r .got) (r .taken) (r .stop) ≡ readOf 52 true (take 64 (now (s .entry))) got (now (bytes .entry))) ×
         (drop 64 (now (s .exit)) ≡ drop 64 (now (s .entry))) ⌝ }
 {
-    wire_reader::read_part(&mut s[..64], got, true, bytes)
+    wire_reader::read_part(&mut s[..FRAME], got, true, bytes)
 }
 
 // A call that is not refused.
 fn pass(
     setup: Setup,
+    n: Numbers,
     s: &mut [u8],
-    got: usize,
-    fill: usize,
-    next: u32,
-    selected: bool,
     bytes: &[u8],
     flash: &mut [u8],
     meta: &mut [u8],
     reply: &mut [u8],
 ) -> Passed
-    requires { ⌜ (128 ≤ length (now s)) × (wellOf 52 true (take 64 (now s)) got ≡ true) ⌝ }
+    requires { ⌜ (128 ≤ length (now s)) × (wellOf 52 true (take 64 (now s)) (n .got) ≡ true) ⌝ }
     ensures { λ r. ⌜ calledOn r (now (s .exit)) (now (flash .exit)) (now (meta .exit)) (now (reply .exit)) ≡
-        onBy (restIn 52 64 (now (s .entry))) (takenOf 52 64 setup (stateIn 52 64 (now (s .entry)) got fill next selected false) (now (bytes .entry)) (now (flash .entry)) (now (meta .entry)) (now (reply .entry))) ⌝ }
+        onBy (restIn 52 64 (now (s .entry)))
+        (takenOf 52 64 setup (worldIn 52 64 (now (s .entry)) n (now (flash .entry)) (now (meta .entry))) (now (bytes .entry)) (now (reply .entry))) ⌝ }
 {
-    let p = read(s, got, bytes);
+    let p = read(s, n.got, bytes);
     let stop = p.stop;
+    let m = begun(n, p.got);
     if is_going(stop) {
-        return after(p.got, fill, next, selected, false, p.taken, Answer::Quiet);
+        return Passed {
+            numbers: m,
+            taken: p.taken,
+            answer: Answer::Quiet,
+        };
     }
-    let d = ended(
-        setup,
-        status_of(stop),
-        s,
-        fill,
-        next,
-        selected,
-        flash,
-        meta,
-        reply,
-    );
-    let answer = d.answer;
-    after(0, d.fill, d.next, d.selected, d.closed, p.taken, answer)
+    ended(setup, kind_of(stop), p.taken, m, s, flash, meta, reply)
+}
+
+// Whether the slice, and what stands beside it, holds a well-formed state.
+fn well_formed(setup: Setup, s: &[u8], n: Numbers) -> bool
+    requires { ⌜ 64 ≤ length (now s) ⌝ }
+    ensures { λ r. ⌜ r ≡ wellFormed 52 64 setup (take 64 (now (s .entry))) n ⌝ }
+{
+    if refusal::run_fits(setup.capacity, n.fill, n.next) {
+        return frame::begins(&s[..FRAME], n.got, true);
+    }
+    false
 }
 
 // The refusal that a call gives, if any.
-fn refusal_of(
-    setup: Setup,
-    s: &[u8],
-    got: usize,
-    fill: usize,
-    next: u32,
-    closed: bool,
-    flash: usize,
-    meta: usize,
-    room: usize,
-) -> Refusal
+fn refusal_of(setup: Setup, s: &[u8], n: Numbers, flash: usize, meta: usize, room: usize) -> Refusal
     requires { ⌜ 64 ≤ length (now s) ⌝ }
-    ensures { λ r. ⌜ refusalNumber r ≡ refusalOf 52 64 setup (take 64 (now (s .entry))) got fill next closed flash meta room ⌝ }
+    ensures { λ r. ⌜ refusalNumber r ≡ refusalOf 52 64 setup (take 64 (now (s .entry))) n flash meta room ⌝ }
 {
-    if refusal::set_up(setup) {
-        if refusal::run_fits(setup.capacity, fill, next) {
-            if frame::begins(&s[..64], got, true) {
-                return refusal::of_lengths(setup.capacity, flash, meta, room, closed);
-            }
-        }
+    if !refusal::set_up(setup) {
+        return Refusal::BadSetup;
+    }
+    if !well_formed(setup, s, n) {
         return Refusal::BadState;
     }
-    Refusal::BadSetup
+    refusal::of_lengths(setup.capacity, flash, meta, room, n.closed)
 }
 
 // The call: `feed_in` with both arrays in one slice.
 pub fn feed_on(
     setup: Setup,
-    got: usize,
-    fill: usize,
-    next: u32,
-    selected: bool,
-    closed: bool,
+    n: Numbers,
     s: &mut [u8],
     bytes: &[u8],
     flash: &mut [u8],
@@ -191,37 +178,24 @@ pub fn feed_on(
     reply: &mut [u8],
 ) -> Passed
     ensures { λ r. ⌜ calledOn r (now (s .exit)) (now (flash .exit)) (now (meta .exit)) (now (reply .exit)) ≡
-        fedOn 52 64 setup (now (s .entry)) got fill next selected closed (now (bytes .entry)) (now (flash .entry)) (now (meta .entry)) (now (reply .entry)) ⌝ }
+        fedOn 52 64 setup (now (s .entry)) n (now (bytes .entry)) (now (flash .entry)) (now (meta .entry)) (now (reply .entry)) ⌝ }
 {
-    if s.len() < 128 {
-        return after(got, fill, next, selected, closed, 0, Answer::BadState);
+    if s.len() < STATE {
+        return Passed {
+            numbers: n,
+            taken: 0,
+            answer: Answer::BadState,
+        };
     }
-    let refusal = refusal_of(
-        setup,
-        s,
-        got,
-        fill,
-        next,
-        closed,
-        flash.len(),
-        meta.len(),
-        reply.len(),
-    );
+    let refusal = refusal_of(setup, s, n, flash.len(), meta.len(), reply.len());
     if refusal.is_none() {
-        return pass(
-            setup,
-            s,
-            got,
-            fill,
-            next,
-            selected,
-            bytes,
-            flash,
-            meta,
-            reply,
-        );
+        return pass(setup, n, s, bytes, flash, meta, reply);
     }
-    after(got, fill, next, selected, closed, 0, refused(refusal))
+    Passed {
+        numbers: n,
+        taken: 0,
+        answer: refused(refusal),
+    }
 }
 
 // Whether the byte at this place is only stored: past the sync word it is one of the header but for its last, or one of the data.
@@ -260,55 +234,41 @@ fn clear(
     erase: usize,
     capacity: usize,
     id_len: usize,
-    fill: usize,
-    next: u32,
-    closed: bool,
+    n: Numbers,
     flash: usize,
     meta: usize,
     room: usize,
 ) -> bool
-    ensures { λ r. ⌜ r ≡ clearOf 52 64 erase capacity «id_len» fill next closed flash meta room ⌝ }
+    ensures { λ r. ⌜ r ≡ clearOf 52 64 erase capacity «id_len» n flash meta room ⌝ }
 {
     if refusal::fits(erase, capacity, id_len) {
-        if refusal::run_fits(capacity, fill, next) {
-            let refusal = refusal::of_lengths(capacity, flash, meta, room, closed);
+        if refusal::run_fits(capacity, n.fill, n.next) {
+            let refusal = refusal::of_lengths(capacity, flash, meta, room, n.closed);
             return refusal.is_none();
         }
     }
     false
 }
 
-// A call on one byte where that byte is only stored, and whether it is: else nothing is done, and `feed_on` is to be called. Of the rest of the state
-// only `got` moves on, by 1.
+// A call on one byte where that byte is only stored, and whether it is: else nothing is done, and `feed_on` is to be called. Of the numbers only `got`
+// moves on,
+// by 1. Of the setup it takes what it tests, so that no id is copied for a byte.
 pub fn byte_on(
     erase: usize,
     capacity: usize,
     id_len: usize,
-    got: usize,
-    fill: usize,
-    next: u32,
-    closed: bool,
+    n: Numbers,
     s: &mut [u8],
     b: u8,
     flash: usize,
     meta: usize,
     room: usize,
 ) -> bool
-    ensures { λ r. ⌜ laidTo r (now (s .exit)) ≡ byteOn 52 64 erase capacity «id_len» got fill next closed (now (s .entry)) b flash meta room ⌝ }
+    ensures { λ r. ⌜ laidTo r (now (s .exit)) ≡ byteOn 52 64 erase capacity «id_len» n (now (s .entry)) b flash meta room ⌝ }
 {
-    if clear(
-        erase,
-        capacity,
-        id_len,
-        fill,
-        next,
-        closed,
-        flash,
-        meta,
-        room,
-    ) {
-        if 128 <= s.len() {
-            return lay_byte(&mut s[..64], got, true, b);
+    if clear(erase, capacity, id_len, n, flash, meta, room) {
+        if STATE <= s.len() {
+            return lay_byte(&mut s[..FRAME], n.got, true, b);
         }
     }
     false

@@ -10,7 +10,8 @@ use Rattle.device_replies.specs.Answers.{reply, restart}
 use Rattle.device_replies.specs.Reply.{headed, spoken, replyOf}
 
 module _ (cap status len wait : ℕ) (f room : List ℕ) (due : Bool) (s : Sent) (k : s ≡ sendOf cap (headed status len f) room) where
-  pub reply-restart : due ≡ true → (m : ℕ) → m ≡ bitOf 0 (flagsOf f) → spoken (restart (s .count) m) (s .bytes) (s .room) ≡ replyOf cap status len due wait f room
+  pub reply-restart : due ≡ true → (m : ℕ) → m ≡ bitOf 0 (flagsOf f) →
+      spoken (restart (s .count) m) (s .bytes) (s .room) ≡ replyOf cap status len due wait f room
   unfolding replyOf
   reply-restart w m e = rw (w, e, k) refl
 

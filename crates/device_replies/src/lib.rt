@@ -1,6 +1,8 @@
-// The answers of a call, and the reply that two of them tell of. Translated from tinyboot, lib/core/src/protocol.rs (MIT OR Apache-2.0); changed: a reply is written
+// The answers of a call, and the reply that two of them tell of. Translated from tinyboot, lib/core/src/protocol.rs (MIT OR Apache-2.0); changed: a reply
+// is written
 // into a lent room, the wait and the restart are answers.
 
+use wire_frames::frame::FrameBytes;
 use wire_numbers::ResetFlags;
 use wire_numbers::RunMode;
 use wire_numbers::Status;
@@ -27,7 +29,7 @@ pub enum Answer {
 }
 
 // The reply's status and length.
-fn head(f: &mut [u8; 64], status: Status, len: u16)
+fn head(f: &mut FrameBytes, status: Status, len: u16)
     ensures { λ r. ⌜ now (f .exit) ≡ headed (statusNumber status) len (now (f .entry)) ⌝ }
 {
     let n = le::bytes16(len);
@@ -36,7 +38,7 @@ fn head(f: &mut [u8; 64], status: Status, len: u16)
     f[9] = n[1];
 }
 
-fn flags(f: &[u8; 64]) -> ResetFlags
+fn flags(f: &FrameBytes) -> ResetFlags
     ensures { λ r. ⌜ r .bits ≡ flagsOf (now (f .entry)) ⌝ }
 {
     ResetFlags { bits: f[7] }
@@ -48,10 +50,11 @@ pub fn reply(
     len: u16,
     restart: bool,
     wait: u8,
-    f: &mut [u8; 64],
+    f: &mut FrameBytes,
     room: &mut [u8],
 ) -> Answer
-    ensures { λ r. ⌜ spoken (toldOf r) (now (f .exit)) (now (room .exit)) ≡ replyOf 52 (statusNumber status) len restart wait (now (f .entry)) (now (room .entry)) ⌝ }
+    ensures { λ r. ⌜ spoken (toldOf r) (now (f .exit)) (now (room .exit)) ≡
+        replyOf 52 (statusNumber status) len restart wait (now (f .entry)) (now (room .entry)) ⌝ }
 {
     let asked = flags(f);
     head(f, status, len);

@@ -1,10 +1,13 @@
 // Translated from tinyboot, lib/core/src/core.rs (MIT OR Apache-2.0); changed: what the Rust runs into is a new state, and the app is an answer.
 
 use device_boot::core;
+use device_state::Numbers;
 use device_state::Setup;
 use device_state::State;
 use device_state::refusal;
 use device_state::refusal::Refusal;
+use store_flash::storage::NONE_PENDING;
+use store_flash::storage::PAGE_SIZE;
 use wire_frames::frame::Frame;
 use wire_numbers::RunMode;
 ghost use mathlib.Core.Path.{_≡_};
@@ -27,13 +30,18 @@ pub struct Started {
 pub fn new_state(closed: bool) -> State
     ensures { λ r. ⌜ r ≡ newState 52 64 closed ⌝ }
 {
+    let frame = Frame::new();
+    let bytes = frame.bytes;
     State {
-        frame: Frame::new(),
-        page: [0u8; 64],
-        fill: 0,
-        next: 0xFFFF_FFFF,
-        selected: false,
-        closed: closed,
+        frame: bytes,
+        page: [0u8; PAGE_SIZE],
+        numbers: Numbers {
+            got: 0,
+            fill: 0,
+            next: NONE_PENDING,
+            selected: false,
+            closed: closed,
+        },
     }
 }
 
@@ -50,16 +58,16 @@ fn refuses(setup: Setup, flash: usize, meta: usize) -> Refusal
     ensures { λ r. ⌜ refusalNumber r ≡ startRefusal 64 setup flash meta ⌝ }
 {
     let capacity = setup.capacity;
-    if refusal::set_up(setup) {
-        if flash != capacity {
-            return Refusal::BadFlash;
-        }
-        if meta != 12 {
-            return Refusal::BadRecord;
-        }
-        return Refusal::None;
+    if !refusal::set_up(setup) {
+        return Refusal::BadSetup;
     }
-    Refusal::BadSetup
+    if flash != capacity {
+        return Refusal::BadFlash;
+    }
+    if meta != 12 {
+        return Refusal::BadRecord;
+    }
+    Refusal::None
 }
 
 fn refused(refusal: Refusal) -> Started

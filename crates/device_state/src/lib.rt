@@ -2,7 +2,8 @@
 // fix at build time is a setup.
 pub mod refusal;
 
-use wire_frames::frame::Frame;
+use store_flash::storage::Page;
+use wire_frames::frame::FrameBytes;
 
 // The numbers that a device is built with. An id of length 0 is an unaddressed device; id bytes past the length count for nothing.
 pub struct Setup {
@@ -14,12 +15,19 @@ pub struct Setup {
     pub key: u32,
 }
 
-// What a device keeps between calls: the frame begun, the run of writes (`next` is 0xFFFF_FFFF with none pending), the selection, and whether a restart is due.
-pub struct State {
-    pub frame: Frame,
-    pub page: [u8; 64],
+// What a device keeps between calls beside its two arrays: how many bytes of a frame have begun; of the run of writes, how much of its page is filled and the
+// next address (NONE_PENDING with none pending); the selection; whether a restart is due.
+pub struct Numbers {
+    pub got: usize,
     pub fill: usize,
     pub next: u32,
     pub selected: bool,
     pub closed: bool,
+}
+
+// All that a device keeps between calls: the bytes of a frame, the page of a run of writes, and the numbers.
+pub struct State {
+    pub frame: FrameBytes,
+    pub page: Page,
+    pub numbers: Numbers,
 }

@@ -1,10 +1,15 @@
 // When a call refuses. Ours: the Rust's types rule these out, or it does not look.
 
+use crate::Numbers;
 use crate::Setup;
+use store_flash::storage::NONE_PENDING;
+use store_flash::storage::PAGE_SIZE;
 use wire_frames::frame;
+use wire_frames::frame::FRAME;
+use wire_frames::frame::FrameBytes;
 ghost use mathlib.Core.Path.{_≡_};
 ghost use lib.Dec.{eqb};
-ghost use Rattle.device_state.specs.Refusals.{eraseFits, capacityFits, setUp, runFits, wellFormed, refusalNumber, lengthsOf, refusalOf};
+ghost use Rattle.device_state.specs.Refusals.{eraseSizeFits, capacityFits, fits, setUp, runFits, wellFormed, refusalNumber, lengthsOf, refusalOf};
 
 // The refusals of 01, in its table's order.
 pub enum Refusal {
@@ -17,32 +22,39 @@ pub enum Refusal {
     Closed,
 }
 
+// A refusal by its number; 0 for none.
+pub fn refusal_number(refusal: Refusal) -> u8
+    ensures { λ r. ⌜ r ≡ refusalNumber refusal ⌝ }
+{
+    match refusal {
+        Refusal::None => 0,
+        Refusal::BadSetup => 10,
+        Refusal::BadState => 11,
+        Refusal::BadFlash => 12,
+        Refusal::BadRecord => 13,
+        Refusal::NoRoom => 14,
+        Refusal::Closed => 15,
+    }
+}
+
 impl Refusal {
     pub fn is_none(self) -> bool
         ensures { λ r. ⌜ r ≡ eqb (refusalNumber self) 0 ⌝ }
     {
-        match self {
-            Refusal::None => true,
-            Refusal::BadSetup => false,
-            Refusal::BadState => false,
-            Refusal::BadFlash => false,
-            Refusal::BadRecord => false,
-            Refusal::NoRoom => false,
-            Refusal::Closed => false,
-        }
+        refusal_number(self) == 0
     }
 }
 
 fn erase_fits(erase: usize) -> bool
-    ensures { λ r. ⌜ r ≡ eraseFits 64 erase ⌝ }
+    ensures { λ r. ⌜ r ≡ eraseSizeFits 64 erase ⌝ }
 {
-    if erase < 64 {
+    if erase < PAGE_SIZE {
         return false;
     }
     if 32768 < erase {
         return false;
     }
-    erase % 64 == 0
+    erase % PAGE_SIZE == 0
 }
 
 fn capacity_fits(erase: usize, capacity: usize) -> bool
@@ -62,7 +74,7 @@ fn capacity_fits(erase: usize, capacity: usize) -> bool
 
 // Whether these numbers are a setup's.
 pub fn fits(erase: usize, capacity: usize, id_len: usize) -> bool
-    ensures { λ r. ⌜ r ≡ setUp 64 erase capacity «id_len» ⌝ }
+    ensures { λ r. ⌜ r ≡ fits 64 erase capacity «id_len» ⌝ }
 {
     if erase_fits(erase) {
         if capacity_fits(erase, capacity) {
@@ -73,7 +85,7 @@ pub fn fits(erase: usize, capacity: usize, id_len: usize) -> bool
 }
 
 pub fn set_up(setup: Setup) -> bool
-    ensures { λ r. ⌜ r ≡ setUp 64 (setup .«erase_size») (setup .capacity) (setup .«id_len») ⌝ }
+    ensures { λ r. ⌜ r ≡ setUp 64 setup ⌝ }
 {
     fits(setup.erase_size, setup.capacity, setup.id_len)
 }
@@ -82,29 +94,29 @@ pub fn set_up(setup: Setup) -> bool
 pub fn run_fits(capacity: usize, fill: usize, next: u32) -> bool
     ensures { λ r. ⌜ r ≡ runFits 64 capacity fill next ⌝ }
 {
-    if 64 <= fill {
+    if PAGE_SIZE <= fill {
         return false;
     }
-    if next == 0xFFFF_FFFF {
+    if next == NONE_PENDING {
         return fill == 0;
     }
     if capacity < next as usize {
         return false;
     }
-    next as usize % 64 == fill
+    next as usize % PAGE_SIZE == fill
 }
 
-// Whether a state's frame and run are those of a device of this capacity.
-pub fn well_formed(capacity: usize, f: &[u8; 64], got: usize, fill: usize, next: u32) -> bool
-    ensures { λ r. ⌜ r ≡ wellFormed 52 64 capacity (now (f .entry)) got fill next ⌝ }
+// Whether a state's frame and numbers are those of a device of this setup.
+pub fn well_formed(setup: Setup, f: &FrameBytes, n: Numbers) -> bool
+    ensures { λ r. ⌜ r ≡ wellFormed 52 64 setup (now (f .entry)) n ⌝ }
 {
-    if run_fits(capacity, fill, next) {
-        return frame::is_beginning(f, got, true);
+    if run_fits(setup.capacity, n.fill, n.next) {
+        return frame::is_beginning(f, n.got, true);
     }
     false
 }
 
-// What is not 12 bytes of record, not the capacity of flash, or less than 64 bytes of room, in the table's order.
+// What is not the capacity of flash, not 12 bytes of record, less room than a frame has bytes, or closed, in the table's order.
 pub fn of_lengths(capacity: usize, flash: usize, meta: usize, room: usize, closed: bool) -> Refusal
     ensures { λ r. ⌜ refusalNumber r ≡ lengthsOf 52 capacity flash meta room closed ⌝ }
 {
@@ -114,7 +126,7 @@ pub fn of_lengths(capacity: usize, flash: usize, meta: usize, room: usize, close
     if meta != 12 {
         return Refusal::BadRecord;
     }
-    if room < 64 {
+    if room < FRAME {
         return Refusal::NoRoom;
     }
     if closed {
@@ -126,22 +138,19 @@ pub fn of_lengths(capacity: usize, flash: usize, meta: usize, room: usize, close
 // The refusal that a call of `feed` gives, if any: the first in the table that applies.
 pub fn refuses(
     setup: Setup,
-    f: &[u8; 64],
-    got: usize,
-    fill: usize,
-    next: u32,
-    closed: bool,
+    f: &FrameBytes,
+    n: Numbers,
     flash: usize,
     meta: usize,
     room: usize,
 ) -> Refusal
-    ensures { λ r. ⌜ refusalNumber r ≡ refusalOf 52 64 setup (now (f .entry)) got fill next closed flash meta room ⌝ }
+    ensures { λ r. ⌜ refusalNumber r ≡ refusalOf 52 64 setup (now (f .entry)) n flash meta room ⌝ }
 {
-    if set_up(setup) {
-        if well_formed(setup.capacity, f, got, fill, next) {
-            return of_lengths(setup.capacity, flash, meta, room, closed);
-        }
+    if !set_up(setup) {
+        return Refusal::BadSetup;
+    }
+    if !well_formed(setup, f, n) {
         return Refusal::BadState;
     }
-    Refusal::BadSetup
+    of_lengths(setup.capacity, flash, meta, room, n.closed)
 }

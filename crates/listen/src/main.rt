@@ -6,6 +6,8 @@ use device_state::Setup;
 use device_state::State;
 use libc::STDIN_FILENO;
 use libc::STDOUT_FILENO;
+use store_flash::storage::PAGE_SIZE;
+use wire_frames::frame::FRAME;
 use wire_numbers::COMPAT_UNSET;
 
 // How far the stream has been heard: the device, the bytes in all, how many of them the last call took, and whether the device listens on.
@@ -18,7 +20,7 @@ struct Heard {
 
 fn unaddressed() -> Setup {
     Setup {
-        erase_size: 64,
+        erase_size: PAGE_SIZE,
         capacity: 16384,
         id: [0u8; 16],
         id_len: 0,
@@ -66,7 +68,7 @@ fn tell(at: u64, answer: Answer, status: u8) -> bool {
 
 // One call, as far as the end of a frame.
 fn hear(heard: Heard, bytes: &[u8], flash: &mut [u8; 16384], meta: &mut [u8; 12]) -> Heard {
-    let mut reply = [0u8; 64];
+    let mut reply = [0u8; FRAME];
     let state = heard.state;
     let f = feed(unaddressed(), state, bytes, flash, meta, &mut reply);
     let total = std::num::wrapping_add_u64(heard.bytes, f.taken as u64);
@@ -139,8 +141,8 @@ fn main() {
     let mut meta = [0xFFu8; 12];
     let heard = all(&mut flash, &mut meta);
     let state = heard.state;
-    let frame = state.frame;
+    let numbers = state.numbers;
     put(b"open ");
-    number(frame.got as u64);
+    number(numbers.got as u64);
     put(b"\n");
 }

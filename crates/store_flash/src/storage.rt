@@ -5,9 +5,15 @@ use crate::cells::first;
 ghost use mathlib.Core.Path.{_≡_};
 ghost use Prim.Native.Nat.{_+_, _-_, _≤_};
 ghost use lib.ListN.{length, take};
-ghost use Rattle.store_flash.specs.Flash.{written, erased, leaves, writeOf, eraseOf};
+ghost use Rattle.store_flash.specs.Flash.{written, erased, leaves, pageWritten, pagesErased};
 
 pub const PAGE_SIZE: usize = 64;
+
+// No write is pending: the next may start at any page. No address is that large.
+pub const NONE_PENDING: u32 = 0xFFFF_FFFF;
+
+// A page under way.
+pub type Page = [u8; PAGE_SIZE];
 
 pub enum Stored {
     Done,
@@ -41,7 +47,7 @@ fn blank(flash: &mut [u8], from: usize, to: usize)
 
 // At most a page, from the start of a page.
 pub fn write(flash: &mut [u8], offset: usize, bytes: &[u8]) -> Stored
-    ensures { λ r. ⌜ leaves r (now (flash .exit)) ≡ writeOf 64 (now (flash .entry)) offset (now (bytes .entry)) ⌝ }
+    ensures { λ r. ⌜ leaves r (now (flash .exit)) ≡ pageWritten 64 (now (flash .entry)) offset (now (bytes .entry)) ⌝ }
 {
     if offset % PAGE_SIZE != 0 {
         return Stored::NotAligned;
@@ -62,7 +68,7 @@ pub fn write(flash: &mut [u8], offset: usize, bytes: &[u8]) -> Stored
 
 // The same of the first n bytes: no part can be taken of an array that a struct holds or that is lent.
 pub fn write_part(flash: &mut [u8], offset: usize, bytes: &[u8], n: usize) -> Stored
-    ensures { λ r. ⌜ leaves r (now (flash .exit)) ≡ writeOf 64 (now (flash .entry)) offset (take n (now (bytes .entry))) ⌝ }
+    ensures { λ r. ⌜ leaves r (now (flash .exit)) ≡ pageWritten 64 (now (flash .entry)) offset (take n (now (bytes .entry))) ⌝ }
 {
     let part = first(bytes, n);
     write(flash, offset, part)
@@ -70,7 +76,7 @@ pub fn write_part(flash: &mut [u8], offset: usize, bytes: &[u8], n: usize) -> St
 
 // Whole pages.
 pub fn erase(flash: &mut [u8], from: usize, to: usize) -> Stored
-    ensures { λ r. ⌜ leaves r (now (flash .exit)) ≡ eraseOf 64 (now (flash .entry)) from to ⌝ }
+    ensures { λ r. ⌜ leaves r (now (flash .exit)) ≡ pagesErased 64 (now (flash .entry)) from to ⌝ }
 {
     if from % PAGE_SIZE != 0 {
         return Stored::NotAligned;

@@ -14,7 +14,23 @@ use borrow.Author.Tests.{le-leb, lt-leb, ltb-true, ltb-false}
 use Rattle.laws.specs.Low.{lowFirst, lowBytes}
 use Rattle.laws.proofs.Low.{low-read}
 use Rattle.store_record.specs.declared.boot_meta_store.Step.{Step}
-use Rattle.store_record.specs.Record.{left, stepNumber, stateOf, trialsOf, checksumOf, sizeOf, baudOf, reservedOf, refreshed, baudSet, half, stepped, stepAnswer, advanced, trialUsed}
+use Rattle.store_record.specs.Record.{
+  left,
+  stepNumber,
+  stateOf,
+  trialsOf,
+  checksumOf,
+  sizeOf,
+  baudOf,
+  reservedOf,
+  refreshed,
+  baudSet,
+  half,
+  stepped,
+  stepAnswer,
+  advanced,
+  trialUsed,
+}
 
 -- all that a record says, by name
 pub record Fields : Type 0 where

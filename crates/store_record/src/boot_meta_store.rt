@@ -10,7 +10,22 @@ ghost use mathlib.Core.Bool.{not};
 ghost use lib.Dec.{ltb, eqb};
 ghost use lib.ListN.{getD, set};
 ghost use Rattle.store_record.specs.State.{stateByte, stateRead};
-ghost use Rattle.store_record.specs.Record.{stepNumber, stateOf, updating, trialsOf, checksumOf, sizeOf, baudOf, stepped, stepsTo, advanceOf, trialOf, baudSet, refreshed, startsLeft};
+ghost use Rattle.store_record.specs.Record.{
+  stepNumber,
+  stateOf,
+  updating,
+  trialsOf,
+  checksumOf,
+  sizeOf,
+  baudOf,
+  stepped,
+  stepsTo,
+  advanceOf,
+  trialOf,
+  baudSet,
+  refreshed,
+  startsLeft,
+};
 
 // Where the fields stand; 9 to 11 are reserved, and kept.
 const STATE: usize = 0;

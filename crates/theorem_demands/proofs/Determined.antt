@@ -14,10 +14,11 @@ use Rattle.wire_numbers.specs.declared.CmdFound.{CmdFound}
 use Rattle.wire_numbers.specs.declared.StatusFound.{StatusFound}
 use Rattle.wire_rates.specs.declared.BaudFound.{BaudFound}
 use Rattle.wire_rates.specs.declared.BaudRate.{BaudRate}
+use Rattle.wire_frames.specs.declared.frame.Kind.{Kind}
 use Rattle.wire_frames.specs.declared.frame.Stop.{Stop}
 use Rattle.wire_numbers.specs.Names.{statusNumber, modeNumber, cmdFoundOf, statusFoundOf}
 use Rattle.wire_rates.specs.Baud.{baudIndex, baudFoundOf}
-use Rattle.wire_frames.specs.Stored.{Said, saidOf, Read, seen}
+use Rattle.wire_frames.specs.Stored.{Said, quiet, ended, noBeginning, saidOf, Read, seen}
 use Rattle.wire_sender.specs.Sent.{Sent, sent}
 use Rattle.wire_numbers.proofs.Apart.{cmd-found-apart, status-apart, status-found-apart, modeFrom, mode-back, mode-apart}
 use Rattle.wire_rates.proofs.Apart.{rate-apart, rate-found-apart}
@@ -25,8 +26,7 @@ use Rattle.store_flash.specs.declared.storage.Stored.{Stored}
 use Rattle.store_record.specs.declared.boot_meta_store.Step.{Step}
 use Rattle.store_record.specs.declared.traits.BootState.{BootState}
 use Rattle.store_record.specs.State.{stateByte}
-use Rattle.store_flash.specs.Flash.{leaves}
-use Rattle.store_flash.specs.Flash as flash
+use Rattle.store_flash.specs.Flash.{Cells, leaves}
 use Rattle.store_record.specs.Record.{Stepped, stepsTo}
 use Rattle.store_flash.proofs.Answers.{stored-injective}
 use Rattle.store_record.proofs.Record.{step-injective}
@@ -43,19 +43,22 @@ use Rattle.cmd_write.specs.Write.{Wrote, wroteTo}
 use Rattle.device_state.specs.declared.refusal.Refusal.{Refusal}
 use Rattle.device_start.specs.declared.Started.{Started}
 use Rattle.device_state.specs.Refusals.{refusalNumber}
-use Rattle.device_start.specs.Starts.{startedTo}
-use Rattle.device_start.specs.Starts as start
+use Rattle.device_start.specs.Starts.{Booted, startedTo}
 use Rattle.device_handler.specs.declared.Handled.{Handled}
-use Rattle.device_handler.specs.Handling.{Obeyed, handledTo}
+use Rattle.device_handler.specs.Handling.{Obeyed}
+use Rattle.device_handler.specs.Inner.{handledTo}
 use Rattle.device_replies.specs.declared.Answer.{Answer}
 use Rattle.device_dispatcher.specs.declared.Dispatched.{Dispatched}
 use Rattle.device_replies.specs.Answers.{Told, toldOf}
 use Rattle.device_replies.specs.Reply.{Spoken, spoken}
-use Rattle.device_dispatcher.specs.Dispatch.{Ending, endedTo}
+use Rattle.device_dispatcher.specs.Dispatch.{Ending}
+use Rattle.device_dispatcher.specs.Inner.{endedTo}
 use Rattle.device_feed.specs.declared.Fed.{Fed}
 use Rattle.device_feed.specs.declared.Passed.{Passed}
-use Rattle.device_feed.specs.Feed.{Called, fedTo, passedTo}
-use Rattle.device_in_place.specs.On.{CalledOn, calledOn}
+use Rattle.device_feed.specs.Feed.{Called}
+use Rattle.device_feed.specs.Inner.{fedTo, passedTo}
+use Rattle.device_in_place.specs.On.{CalledOn}
+use Rattle.device_in_place.specs.Inner.{calledOn}
 
 -- the two laws
 pub plain : {A : Type 0} (s a b : A) → a ≡ s → b ≡ s → a ≡ b
@@ -64,7 +67,7 @@ plain s a b p q = p ∙ sym q
 pub determined : {A B : Type 0} (see : A → B) → ((a b : A) → see a ≡ see b → a ≡ b) → (s : B) (a b : A) → see a ≡ s → see b ≡ s → a ≡ b
 determined see tells s a b p q = tells a b (plain s (see a) (see b) p q)
 
--- what tells answers apart: each is known by its numbers
+-- what tells answers apart: each is known by its numbers, or by what it says
 abbrev refusalFrom : ℕ → Refusal
 refusalFrom n =
     pick (eqb n 10) Refusal.BadSetup
@@ -110,12 +113,17 @@ answer-back Answer.Closed = refl
 pub answer-apart : (a b : Answer) → toldOf a ≡ toldOf b → a ≡ b
 answer-apart = apart toldOf answerFrom answer-back
 
+abbrev stopOf : Kind → Stop
+stopOf Kind.Unsupported = Stop.Unsupported
+stopOf Kind.PayloadOverflow = Stop.PayloadOverflow
+stopOf Kind.Overheard = Stop.Overheard
+stopOf Kind.CrcMismatch = Stop.CrcMismatch
+stopOf Kind.Good = Stop.Good
+
 abbrev stopFrom : Said → Stop
-stopFrom s =
-    pick (eqb (s .number) 0) Stop.Going
-    (pick (eqb (s .number) 11) Stop.Refused
-    (pick (eqb (s .status) 5) Stop.Unsupported
-    (pick (eqb (s .status) 6) Stop.PayloadOverflow (pick (eqb (s .status) 0) Stop.Overheard (pick (eqb (s .status) 3) Stop.CrcMismatch Stop.Good)))))
+stopFrom quiet = Stop.Going
+stopFrom (ended k) = stopOf k
+stopFrom noBeginning = Stop.Refused
 
 stop-back : (s : Stop) → stopFrom (saidOf s) ≡ s
 stop-back Stop.Refused = refl
@@ -174,28 +182,27 @@ cmd-write s r r' f f' p p' i j =
 pub refuses : (s : ℕ) (r r' : Refusal) → refusalNumber r ≡ s → refusalNumber r' ≡ s → r ≡ r'
 refuses = determined refusalNumber refusal-apart
 
-pub started : (s : start.Left) (r r' : Started) (m m' : List ℕ) → startedTo r m ≡ s → startedTo r' m' ≡ s →
+pub started : (s : Booted) (r r' : Started) (m m' : List ℕ) → startedTo r m ≡ s → startedTo r' m' ≡ s →
     (r .state ≡ r' .state) × (r .refusal ≡ r' .refusal) × (r .mode ≡ r' .mode) × (m ≡ m')
 started s r r' m m' p q =
     let e = plain s _ _ p q in (
-      ap (λ (v : start.Left). v .state) e,
-      refusal-apart _ _ (ap (λ (v : start.Left). v .answer) e),
-      mode-apart _ _ (ap (λ (v : start.Left). v .mode) e),
-      ap (λ (v : start.Left). v .meta) e,
+      ap (λ (v : Booted). v .state) e,
+      refusal-apart _ _ (ap (λ (v : Booted). v .answer) e),
+      mode-apart _ _ (ap (λ (v : Booted). v .mode) e),
+      ap (λ (v : Booted). v .meta) e,
     )
 
 -- a request handled, a reply, a frame's end, and the calls
 pub handle : (s : Obeyed) (r r' : Handled) (f f' p p' l l' m m' : List ℕ) → handledTo r f p l m ≡ s → handledTo r' f' p' l' m' ≡ s →
-    (r .status ≡ r' .status) × (r .len ≡ r' .len) × (r .restart ≡ r' .restart) × (r .fill ≡ r' .fill) × (r .next ≡ r' .next) × (f ≡ f') × (p ≡ p') × (l ≡ l') × (m ≡ m')
+    (r .status ≡ r' .status) × (r .len ≡ r' .len) × (r .restart ≡ r' .restart) × (r .numbers ≡ r' .numbers) × (f ≡ f') × (p ≡ p') × (l ≡ l') × (m ≡ m')
 handle s r r' f f' p p' l l' m m' i j =
     let e = plain s _ _ i j in (
       status-apart _ _ (ap (λ (v : Obeyed). v .status) e),
       ap (λ (v : Obeyed). v .len) e,
       ap (λ (v : Obeyed). v .restart) e,
-      ap (λ (v : Obeyed). v .left .fill) e,
-      ap (λ (v : Obeyed). v .left .next) e,
-      ap (λ (v : Obeyed). v .left .bytes) e,
-      ap (λ (v : Obeyed). v .left .page) e,
+      ap (λ (v : Obeyed). v .left .state .numbers) e,
+      ap (λ (v : Obeyed). v .left .state .frame) e,
+      ap (λ (v : Obeyed). v .left .state .page) e,
       ap (λ (v : Obeyed). v .left .flash) e,
       ap (λ (v : Obeyed). v .left .meta) e,
     )
@@ -206,17 +213,13 @@ reply s r r' f f' o o' p q =
     (answer-apart r r' (ap (λ (v : Spoken). v .told) e), ap (λ (v : Spoken). v .bytes) e, ap (λ (v : Spoken). v .room) e)
 
 pub dispatch : (s : Ending) (r r' : Dispatched) (f f' p p' l l' m m' o o' : List ℕ) → endedTo r f p l m o ≡ s → endedTo r' f' p' l' m' o' ≡ s →
-    (r .answer ≡ r' .answer) × (r .fill ≡ r' .fill) × (r .next ≡ r' .next) × (r .selected ≡ r' .selected) × (r .closed ≡ r' .closed) ×
-    (f ≡ f') × (p ≡ p') × (l ≡ l') × (m ≡ m') × (o ≡ o')
+    (r .answer ≡ r' .answer) × (r .numbers ≡ r' .numbers) × (f ≡ f') × (p ≡ p') × (l ≡ l') × (m ≡ m') × (o ≡ o')
 dispatch s r r' f f' p p' l l' m m' o o' i j =
     let e = plain s _ _ i j in (
       answer-apart _ _ (ap (λ (v : Ending). v .told) e),
-      ap (λ (v : Ending). v .left .fill) e,
-      ap (λ (v : Ending). v .left .next) e,
-      ap (λ (v : Ending). v .selected) e,
-      ap (λ (v : Ending). v .closed) e,
-      ap (λ (v : Ending). v .left .bytes) e,
-      ap (λ (v : Ending). v .left .page) e,
+      ap (λ (v : Ending). v .left .state .numbers) e,
+      ap (λ (v : Ending). v .left .state .frame) e,
+      ap (λ (v : Ending). v .left .state .page) e,
       ap (λ (v : Ending). v .left .flash) e,
       ap (λ (v : Ending). v .left .meta) e,
       ap (λ (v : Ending). v .room) e,
@@ -228,51 +231,41 @@ feed s r r' l l' m m' o o' i j =
     let e = plain s _ _ i j in (
       answer-apart _ _ (ap (λ (v : Called). v .told) e),
       ap (λ (v : Called). v .taken) e,
-      ap (λ (v : Called). v .state) e,
-      ap (λ (v : Called). v .flash) e,
-      ap (λ (v : Called). v .meta) e,
+      ap (λ (v : Called). v .left .state) e,
+      ap (λ (v : Called). v .left .flash) e,
+      ap (λ (v : Called). v .left .meta) e,
       ap (λ (v : Called). v .room) e,
     )
 
 pub feed-in : (s : Called) (r r' : Passed) (f f' p p' l l' m m' o o' : List ℕ) → passedTo r f p l m o ≡ s → passedTo r' f' p' l' m' o' ≡ s →
-    (r .answer ≡ r' .answer) × (r .taken ≡ r' .taken) × (r .got ≡ r' .got) × (r .fill ≡ r' .fill) × (r .next ≡ r' .next) × (r .selected ≡ r' .selected) ×
-    (r .closed ≡ r' .closed) × (f ≡ f') × (p ≡ p') × (l ≡ l') × (m ≡ m') × (o ≡ o')
+    (r .answer ≡ r' .answer) × (r .taken ≡ r' .taken) × (r .numbers ≡ r' .numbers) × (f ≡ f') × (p ≡ p') × (l ≡ l') × (m ≡ m') × (o ≡ o')
 feed-in s r r' f f' p p' l l' m m' o o' i j =
     let e = plain s _ _ i j in (
       answer-apart _ _ (ap (λ (v : Called). v .told) e),
       ap (λ (v : Called). v .taken) e,
-      ap (λ (v : Called). v .state .frame .got) e,
-      ap (λ (v : Called). v .state .fill) e,
-      ap (λ (v : Called). v .state .next) e,
-      ap (λ (v : Called). v .state .selected) e,
-      ap (λ (v : Called). v .state .closed) e,
-      ap (λ (v : Called). v .state .frame .bytes) e,
-      ap (λ (v : Called). v .state .page) e,
-      ap (λ (v : Called). v .flash) e,
-      ap (λ (v : Called). v .meta) e,
+      ap (λ (v : Called). v .left .state .numbers) e,
+      ap (λ (v : Called). v .left .state .frame) e,
+      ap (λ (v : Called). v .left .state .page) e,
+      ap (λ (v : Called). v .left .flash) e,
+      ap (λ (v : Called). v .left .meta) e,
       ap (λ (v : Called). v .room) e,
     )
 
 -- the same with both arrays in one slice
 pub feed-on : (s : CalledOn) (r r' : Passed) (f f' l l' m m' o o' : List ℕ) → calledOn r f l m o ≡ s → calledOn r' f' l' m' o' ≡ s →
-    (r .answer ≡ r' .answer) × (r .taken ≡ r' .taken) × (r .got ≡ r' .got) × (r .fill ≡ r' .fill) × (r .next ≡ r' .next) × (r .selected ≡ r' .selected) ×
-    (r .closed ≡ r' .closed) × (f ≡ f') × (l ≡ l') × (m ≡ m') × (o ≡ o')
+    (r .answer ≡ r' .answer) × (r .taken ≡ r' .taken) × (r .numbers ≡ r' .numbers) × (f ≡ f') × (l ≡ l') × (m ≡ m') × (o ≡ o')
 feed-on s r r' f f' l l' m m' o o' i j =
     let e = plain s _ _ i j in (
       answer-apart _ _ (ap (λ (v : CalledOn). v .told) e),
       ap (λ (v : CalledOn). v .taken) e,
-      ap (λ (v : CalledOn). v .got) e,
-      ap (λ (v : CalledOn). v .fill) e,
-      ap (λ (v : CalledOn). v .next) e,
-      ap (λ (v : CalledOn). v .selected) e,
-      ap (λ (v : CalledOn). v .closed) e,
+      ap (λ (v : CalledOn). v .numbers) e,
       ap (λ (v : CalledOn). v .bytes) e,
       ap (λ (v : CalledOn). v .flash) e,
       ap (λ (v : CalledOn). v .meta) e,
       ap (λ (v : CalledOn). v .room) e,
     )
 
--- an answer and a status by their numbers: `refused`, `status_of`
+-- an answer by its number: `refused`
 pub answered : (s : Told) (r r' : Answer) → toldOf r ≡ s → toldOf r' ≡ s → r ≡ r'
 answered = determined toldOf answer-apart
 
@@ -289,10 +282,10 @@ check-boot-state s r r' m m' p q =
     (mode-apart r r' (ap (λ (v : Decision). v .mode) e), ap (λ (v : Decision). v .meta) e)
 
 -- flash and record: `write`, `write_part`, `erase`; `advance`, `consume_trial`; `boot_state`, `from_u8`
-pub stored : (s : flash.Left) (r r' : Stored) (f f' : List ℕ) → leaves r f ≡ s → leaves r' f' ≡ s → (r ≡ r') × (f ≡ f')
+pub stored : (s : Cells) (r r' : Stored) (f f' : List ℕ) → leaves r f ≡ s → leaves r' f' ≡ s → (r ≡ r') × (f ≡ f')
 stored s r r' f f' p q =
     let e = plain s _ _ p q in
-    (stored-injective r r' (ap (λ (v : flash.Left). v .answer) e), ap (λ (v : flash.Left). v .cells) e)
+    (stored-injective r r' (ap (λ (v : Cells). v .answer) e), ap (λ (v : Cells). v .cells) e)
 
 pub stepped : (s : Stepped) (r r' : Step) (m m' : List ℕ) → stepsTo r m ≡ s → stepsTo r' m' ≡ s → (r ≡ r') × (m ≡ m')
 stepped s r r' m m' p q =

@@ -7,20 +7,20 @@ use native.Mathlib.Omega.{arith}
 use lib.ListN.{length, take, drop, take-append-drop}
 use lib.Seq.{drop-at, length-take-le}
 use Rattle.wire_frames.specs.Reading.{Outcome, Begun, Ended, readFrame}
-use Rattle.wire_frames.specs.Stored.{begun}
 use Rattle.device_state.specs.declared.Setup.{Setup}
+use Rattle.device_state.specs.State.{World}
 use Rattle.device_feed.specs.Feed.{Called}
-use Rattle.theorem_demands.specs.Stream.{Story, storyOf}
-use Rattle.theorem_demands.specs.Demand.{ours, World, Good, call, after, noted, Runs, next, Demand3}
+use Rattle.theorem_demands.specs.Stream.{Story, wholeOf, storyOf}
+use Rattle.theorem_demands.specs.Demand.{ours, Good, noted, Runs, next}
 use Rattle.theorem_demands.proofs.Calls.{quiet-is, ended-is}
 use Rattle.theorem_demands.proofs.Cut.{demand-3}
 
 module _ (s : Setup) (w : World) (y : Good 52 64 s w) (a b room : List ℕ) (h : 64 ≤ length room) where
   abbrev c : Called
-  c = call ours s w a room
+  c = ours s w a room
 
   abbrev read : Outcome
-  read = readFrame 52 true (begun 52 (w .state .frame .bytes) (w .state .frame .got) ++ a)
+  read = readFrame 52 true (wholeOf 52 w a)
 
   -- no more is taken than was handed in
   pub within : c .taken ≤ length a
@@ -43,19 +43,24 @@ module _ (s : Setup) (w : World) (y : Good 52 64 s w) (a b room : List ℕ) (h :
 
   module _ (not : c .told .number ≡ 3 → ⊥) (other : List ℕ) (o : 64 ≤ length other) (t : Story) where
     -- alone, and the next piece after it
-    pub rest-alone : (call ours s (after c) rest other .told .number ≡ 3 → ⊥) →
-        Runs 52 ours s (after (call ours s (after c) rest other)) (drop (call ours s (after c) rest other .taken) (rest ++ b)) t →
-        noted c (noted (call ours s (after c) rest other) t) ≡ storyOf 52 64 s (w .state) (a ++ b) (w .flash) (w .meta)
+    abbrev alone : Called
+    alone = ours s (c .left) rest other
+
+    pub rest-alone : (alone .told .number ≡ 3 → ⊥) → Runs 52 ours s (alone .left) (drop (alone .taken) (rest ++ b)) t →
+        noted c (noted alone t) ≡ storyOf 52 64 s w (a ++ b)
     rest-alone n k =
-        let u : Story = noted (call ours s (after c) rest other) t in
-        demand-3 .uncut s w y (a ++ b) (noted c u)
-        (next a b room refl h not (subst (λ (v : List ℕ). Runs 52 ours s (after c) v u) (sym left) (next rest b other refl o n k)))
+        demand-3 .uncut s w y (a ++ b) (noted c (noted alone t))
+        (next a b room c refl refl h not
+        (subst (λ (v : List ℕ). Runs 52 ours s (c .left) v (noted alone t)) (sym left) (next rest b other alone refl refl o n k)))
 
     -- before the next piece, in one
-    pub rest-first : (call ours s (after c) (rest ++ b) other .told .number ≡ 3 → ⊥) →
-        Runs 52 ours s (after (call ours s (after c) (rest ++ b) other)) (drop (call ours s (after c) (rest ++ b) other .taken) (rest ++ b)) t →
-        noted c (noted (call ours s (after c) (rest ++ b) other) t) ≡ storyOf 52 64 s (w .state) (a ++ b) (w .flash) (w .meta)
+    abbrev both : Called
+    both = ours s (c .left) (rest ++ b) other
+
+    pub rest-first : (both .told .number ≡ 3 → ⊥) → Runs 52 ours s (both .left) (drop (both .taken) (rest ++ b)) t →
+        noted c (noted both t) ≡ storyOf 52 64 s w (a ++ b)
     rest-first n k =
-        let u : Story = noted (call ours s (after c) (rest ++ b) other) t in
-        demand-3 .uncut s w y (a ++ b) (noted c u)
-        (next a b room refl h not (subst (λ (v : List ℕ). Runs 52 ours s (after c) v u) (sym left) (next (rest ++ b) [] other (sym (append-nil (rest ++ b))) o n k)))
+        demand-3 .uncut s w y (a ++ b) (noted c (noted both t))
+        (next a b room c refl refl h not
+        (subst (λ (v : List ℕ). Runs 52 ours s (c .left) v (noted both t)) (sym left)
+        (next (rest ++ b) [] other both refl (sym (append-nil (rest ++ b))) o n k)))

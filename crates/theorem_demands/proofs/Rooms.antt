@@ -11,23 +11,23 @@ use lib.Dec.{eqb, leb}
 use Rattle.laws.specs.Over.{over}
 use Rattle.wire_frames.specs.Fields.{lenOf, flagsOf}
 use Rattle.wire_frames.specs.Stored.{ready}
-use Rattle.wire_sender.specs.Sent.{wire, sealed, Sent, sent, sendOf}
+use Rattle.wire_sender.specs.Sent.{wire, sealed, Sent, sendOf}
 use Rattle.wire_sender.proofs.Sealing.{sealed-length, sealed-part}
 use Rattle.wire_numbers.specs.Flags.{bitOf}
+use Rattle.wire_frames.specs.declared.frame.Kind.{Kind}
 use Rattle.device_state.specs.declared.Setup.{Setup}
-use Rattle.device_handler.specs.Handling.{Held, held, Obeyed}
+use Rattle.device_state.specs.State.{World, closedSet, frameSet, numbersSet}
+use Rattle.device_handler.specs.Handling.{Obeyed}
 use Rattle.device_replies.specs.Answers.{Told, reply, restart}
 use Rattle.device_replies.specs.Reply.{headed, saidBy, spokenBy, replyOf}
-use Rattle.device_dispatcher.specs.Dispatch.{Ending, silent, spokenTo, answeredOf, dispatchOf}
+use Rattle.device_dispatcher.specs.Dispatch.{Ending, spokenTo, answeredOf, dispatchOf}
 use Rattle.theorem_demands.specs.Stream.{Event, eventOf}
 use Rattle.theorem_demands.proofs.Keeping.{Fit, headed-length, dispatch-all}
 
 -- the same but for what stands in the room past the reply
 pub record Same (a b : Ending) : Type 0 where
-  pub event : eventOf a ≡ eventOf b
+  pub event : eventOf (a .told) (a .room) ≡ eventOf (b .told) (b .room)
   pub left : a .left ≡ b .left
-  pub selected : a .selected ≡ b .selected
-  pub closed : a .closed ≡ b .closed
 
 -- what is sent of a frame f of 64 bytes: the room's part of it is the frame on the wire
 pub record Wired (f : List ℕ) (a b : Sent) : Type 0 where
@@ -66,45 +66,44 @@ event-of true wait flags a b c w =
     ap (λ (n : ℕ). noted (restart n (bitOf 0 flags)) (take (a .count) (a .room))) c ∙ ap (noted (restart (b .count) (bitOf 0 flags))) w
 event-of false wait flags a b c w = ap (λ (n : ℕ). noted (reply n wait) (take (a .count) (a .room))) c ∙ ap (noted (reply (b .count) wait)) w
 
-answered-same : (s : Setup) (wait : ℕ) (x : Obeyed) (on : Bool) → Fit s (x .left) → (room other : List ℕ) → 64 ≤ length room → 64 ≤ length other →
-    Same (answeredOf 52 wait x on room) (answeredOf 52 wait x on other)
+answered-same : (s : Setup) (wait : ℕ) (x : Obeyed) → Fit s (x .left) → (room other : List ℕ) → 64 ≤ length room → 64 ≤ length other →
+    Same (answeredOf 52 wait x room) (answeredOf 52 wait x other)
 unfolding answeredOf replyOf
-answered-same s wait x on v room other r o =
-    let f = headed (x .status) (x .len) (x .left .bytes) in
-    let k = wired f (headed-length (x .status) (x .len) (x .left .bytes) ∙ v .whole) room other r o in
+answered-same s wait x v room other r o =
+    let f = headed (x .status) (x .len) (x .left .state .frame) in
+    let k = wired f (headed-length (x .status) (x .len) (x .left .state .frame) ∙ v .whole) room other r o in
     record {
-      event = event-of (x .restart) wait (flagsOf (x .left .bytes)) (sendOf 52 f room) (sendOf 52 f other) (k .count) (k .reply);
-      left = ap (λ (g : List ℕ). held g (x .left .page) (x .left .fill) (x .left .next) (x .left .flash) (x .left .meta)) (k .bytes);
-      selected = refl;
-      closed = refl;
+      event = event-of (x .restart) wait (flagsOf (x .left .state .frame)) (sendOf 52 f room) (sendOf 52 f other) (k .count) (k .reply);
+      left = ap (λ (g : List ℕ). numbersSet (closedSet (x .restart) (x .left .state .numbers)) (frameSet g (x .left))) (k .bytes);
     }
-
-pub same-room : (s : Setup) (status : ℕ) (h : Held) (on : Bool) → s .«id_len» ≤ 16 → Fit s h → (room other : List ℕ) → 64 ≤ length room → 64 ≤ length other →
-    Same (dispatchOf 52 64 s status h on room) (dispatchOf 52 64 s status h on other)
-same-room s status h on i w =
-    dispatch-all s status h on i w
-    (λ (e : List ℕ → Ending). (room other : List ℕ) → 64 ≤ length room → 64 ≤ length other → Same (e room) (e other))
-    (λ g b v room other r o. record { event = refl; left = refl; selected = refl; closed = refl })
-    (answered-same s)
 
 -- what is said of a frame that has ended: it is not quiet, and a restart, which closes the feed, is 3
 pub record Numbered (a : Ending) : Type 0 where
   pub loud : eqb (a .told .number) 0 ≡ false
-  pub closes : a .closed ≡ eqb (a .told .number) 3
+  pub closes : a .left .state .numbers .closed ≡ eqb (a .told .number) 3
   pub few : a .told .number ≤ 3
 
-answered-number : (s : Setup) (wait : ℕ) (x : Obeyed) (on : Bool) → Fit s (x .left) → (room : List ℕ) → Numbered (answeredOf 52 wait x on room)
+answered-number : (s : Setup) (wait : ℕ) (x : Obeyed) → Fit s (x .left) → (room : List ℕ) → Numbered (answeredOf 52 wait x room)
 unfolding answeredOf replyOf
-answered-number s wait x on v room = go (x .restart) refl
+answered-number s wait x v room = go (x .restart) refl
   where
     f : List ℕ
-    f = headed (x .status) (x .len) (x .left .bytes)
+    f = headed (x .status) (x .len) (x .left .state .frame)
 
-    go : (t : Bool) → x .restart ≡ t → Numbered (spokenTo x on (spokenBy (x .restart) wait (flagsOf (x .left .bytes)) (sendOf 52 f room)))
+    go : (t : Bool) → x .restart ≡ t → Numbered (spokenTo x (spokenBy (x .restart) wait (flagsOf (x .left .state .frame)) (sendOf 52 f room)))
     go true e = rw e (record { loud = refl; closes = refl; few = omega arith })
     go false e = rw e (record { loud = refl; closes = refl; few = omega arith })
 
-pub numbered : (s : Setup) (status : ℕ) (h : Held) (on : Bool) → s .«id_len» ≤ 16 → Fit s h → (room : List ℕ) → Numbered (dispatchOf 52 64 s status h on room)
-numbered s status h on i w =
-    dispatch-all s status h on i w (λ (e : List ℕ → Ending). (room : List ℕ) → Numbered (e room)) (λ g b v room. record { loud = refl; closes = refl; few = omega arith })
-    (answered-number s)
+-- of a frame's end in an open world
+module _ (s : Setup) (kind : Kind) (w : World) (i : s .«id_len» ≤ 16) (v : Fit s w) (u : w .state .numbers .closed ≡ false) where
+  pub same-room : (room other : List ℕ) → 64 ≤ length room → 64 ≤ length other → Same (dispatchOf 52 64 s kind w room) (dispatchOf 52 64 s kind w other)
+  same-room =
+      dispatch-all s kind w i v u
+      (λ (e : List ℕ → Ending). (room other : List ℕ) → 64 ≤ length room → 64 ≤ length other → Same (e room) (e other))
+      (λ g k c room other r o. record { event = refl; left = refl })
+      (answered-same s)
+
+  pub dispatch-number : (room : List ℕ) → Numbered (dispatchOf 52 64 s kind w room)
+  dispatch-number =
+      dispatch-all s kind w i v u (λ (e : List ℕ → Ending). (room : List ℕ) → Numbered (e room))
+      (λ g k c room. record { loud = refl; closes = c; few = omega arith }) (answered-number s)

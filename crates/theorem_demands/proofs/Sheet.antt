@@ -4,13 +4,47 @@ use Rattle.device_boot.specs.Start.{validOf, triedOf, clearedOf, startOf}
 use Rattle.store_flash.specs.Flash.{written, erased}
 use Rattle.store_flash.specs.Flash as flash
 use Rattle.store_record.specs.Record.{stepped, stepAnswer}
-use Rattle.cmd_erase.specs.Erase.{eraseFits, readied, stuck, eraseOf}
-use Rattle.cmd_write.specs.Write.{took, poured, flushed, writeFits, writtenOf, cmdWriteOf}
+use Rattle.cmd_erase.specs.Erase.{rangeFits, readied, stuck, eraseOf}
+use Rattle.cmd_write.specs.Write.{took, poured, flushed, writeFits, writtenOf, writeOf}
 use Rattle.cmd_verify.specs.Verify.{keyFits, verifyOf}
 use Rattle.device_feed.proofs.Rules.{frame-rules}
 use Rattle.theorem_demands.specs.Stream.{streamOf}
 use Rattle.theorem_demands.specs.Sheet.{startedBy, AllHold, sheet}
 
 pub sheet-holds : AllHold 52 64 sheet
-unfolding frame-rules streamOf startedBy startOf clearedOf triedOf validOf eraseOf eraseFits readied stuck cmdWriteOf writeFits writtenOf flushed poured took verifyOf keyFits written erased flash.eraseOf flash.writeOf stepped stepAnswer
-sheet-holds = ((refl, refl, refl), ((refl, refl, refl), ((refl, refl, refl), ((refl, refl, refl), ((refl, refl, refl), ((refl, refl, refl), ((refl, refl, refl), ((refl, refl, refl), ((refl, refl, refl), ((refl, refl, refl), ((refl, refl, refl), ((refl, refl, refl), ((refl, refl, refl), ((refl, refl, refl), ((refl, refl, refl), ((refl, refl, refl), tt))))))))))))))))
+unfolding frame-rules streamOf startedBy startOf clearedOf triedOf validOf eraseOf rangeFits readied stuck writeOf writeFits writtenOf flushed poured took
+    verifyOf keyFits written erased flash.pagesErased flash.pageWritten stepped stepAnswer
+sheet-holds = (
+  (refl, refl, refl),
+  (
+    (refl, refl, refl),
+    (
+      (refl, refl, refl),
+      (
+        (refl, refl, refl),
+        (
+          (refl, refl, refl),
+          (
+            (refl, refl, refl),
+            (
+              (refl, refl, refl),
+              (
+                (refl, refl, refl),
+                (
+                  (refl, refl, refl),
+                  (
+                    (refl, refl, refl),
+                    (
+                      (refl, refl, refl),
+                      ((refl, refl, refl), ((refl, refl, refl), ((refl, refl, refl), ((refl, refl, refl), ((refl, refl, refl), tt))))),
+                    ),
+                  ),
+                ),
+              ),
+            ),
+          ),
+        ),
+      ),
+    ),
+  ),
+)

@@ -27,7 +27,8 @@ module _ (cap : ℕ) (device : Bool) where
   unfolding started
   size-of f k q r e = go (ltb (length f) 10) refl
     where
-      last : 10 ≤ length f → lenOf f ≤ cap → (t : Bool) → pick t (Begun f) (Ended (checked device f) (take (12 + lenOf f) f) (drop (12 + lenOf f) f)) ≡ Ended k q r →
+      last : 10 ≤ length f → lenOf f ≤ cap → (t : Bool) →
+          pick t (Begun f) (Ended (checked device f) (take (12 + lenOf f) f) (drop (12 + lenOf f) f)) ≡ Ended k q r →
           length (take (10 + lenOf q) q) ≤ 10 + cap
       last h v true x = let z : _≡_ {A = ℕ} 0 1 = cc in absurd (omega arith)
       last h v false x =

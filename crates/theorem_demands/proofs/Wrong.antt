@@ -7,11 +7,12 @@ use mathlib.Core.List.{List, [], _∷_, _++_}
 use native.Mathlib.Omega.{arith}
 use lib.ListN.{length, replicate}
 use Rattle.device_state.specs.declared.Setup.{Setup}
+use Rattle.device_state.specs.State.{World}
 use Rattle.device_start.specs.Starts.{newState}
 use Rattle.device_feed.proofs.Rules.{call-rules}
 use Rattle.theorem_demands.specs.Stream.{Story, streamOf}
 use Rattle.theorem_demands.specs.Devices.{acknowledging, greedy}
-use Rattle.theorem_demands.specs.Demand.{ours, World, Good, Runs, next, stop, Demand3}
+use Rattle.theorem_demands.specs.Demand.{ours, Good, Runs, next, stop, Demand3}
 use Rattle.theorem_demands.specs.Sheet.{header, blank}
 
 -- a new unaddressed module of 64 bytes
@@ -33,8 +34,8 @@ pub greedy-fails : Demand3 52 64 (greedy ours) → ⊥
 unfolding call-rules streamOf
 greedy-fails d =
     let l : List ℕ = header 6 0 0 ++ (0xAA ∷ []) in
-    let t = d .uncut module-of-64 fresh good l _ (stop l [] room refl (omega arith) (inr refl)) in
-    let z : _≡_ {A = ℕ} 0 1 = ap (λ (v : Story). v .state .frame .got) t in
+    let t = d .uncut module-of-64 fresh good l _ (stop l [] room _ refl refl (omega arith) (inr refl)) in
+    let z : _≡_ {A = ℕ} 0 1 = ap (λ (v : Story). v .left .state .numbers .got) t in
     omega arith
 
 -- the same command, and a call with nothing: a frame is answered that never came
@@ -42,6 +43,8 @@ pub acknowledging-fails : Demand3 52 64 (acknowledging ours) → ⊥
 unfolding call-rules streamOf
 acknowledging-fails d =
     let l : List ℕ = header 6 0 0 in
-    let t = d .uncut module-of-64 fresh good l _ (next l [] room refl (omega arith) (λ e. omega arith) (stop [] [] room refl (omega arith) (inr refl))) in
+    let t =
+    d .uncut module-of-64 fresh good l _
+    (next l [] room _ refl refl (omega arith) (λ e. omega arith) (stop [] [] room _ refl refl (omega arith) (inr refl))) in
     let z : _≡_ {A = ℕ} 2 1 = ap (λ (v : Story). length (v .events)) t in
     omega arith

@@ -37,11 +37,11 @@ silence = record { number = 1; status = 0; payload = []; wait = 0 }
 abbrev pub replies : ℕ → List ℕ → ℕ → Shown
 replies status payload wait = record { number = 2; status = status; payload = payload; wait = wait }
 
-abbrev pub refused : ℕ → Shown
-refused status = replies status [] 0
+abbrev pub refusedWith : ℕ → Shown
+refusedWith status = replies status [] 0
 
 abbrev pub ok : Shown
-ok = refused 1
+ok = refusedWith 1
 
 -- a frame on the wire: command, status, address, flags, data, and its CRC (01, Frame bytes)
 abbrev pub frame : ℕ → ℕ → ℕ → ℕ → List ℕ → List ℕ
@@ -99,12 +99,16 @@ startedBy (suc n) capacity flash meta = startedBy n capacity flash (startOf capa
 
 abbrev pub storyOfRow : ℕ → ℕ → Row → Story
 storyOfRow cap page r =
-    storyOf cap page (setupOf r) (newState cap page false) (r .stream) (r .flash) (startedBy (r .starts) (length (r .flash)) (r .flash) (r .meta))
+    storyOf cap page (setupOf r)
+    (record { state = newState cap page false; flash = r .flash; meta = startedBy (r .starts) (length (r .flash)) (r .flash) (r .meta) })
+    (r .stream)
 
 -- a row holds
 abbrev pub Holds : ℕ → ℕ → Row → Type 0
 Holds cap page r =
-    (allShown (storyOfRow cap page r .events) ≡ r .answers) × (storyOfRow cap page r .flash ≡ r .flashAfter) × (storyOfRow cap page r .meta ≡ r .metaAfter)
+    (allShown (storyOfRow cap page r .events) ≡ r .answers) ×
+    (storyOfRow cap page r .left .flash ≡ r .flashAfter) ×
+    (storyOfRow cap page r .left .meta ≡ r .metaAfter)
 
 abbrev pub AllHold : ℕ → ℕ → List Row → Type 0
 AllHold cap page [] = Unit {0}
@@ -121,8 +125,8 @@ abbrev pub tried : ℕ → List ℕ
 tried trials = 0x3F ∷ trials ∷ blank 10
 
 -- after a Verify: Validating, all trials, the CRC and the size
-abbrev pub recorded : ℕ → ℕ → List ℕ
-recorded crc size = 0x3F ∷ 0xFF ∷ (lowBytes 2 crc ++ (lowBytes 4 size ++ blank 4))
+abbrev pub validatedAs : ℕ → ℕ → List ℕ
+validatedAs crc size = 0x3F ∷ 0xFF ∷ (lowBytes 2 crc ++ (lowBytes 4 size ++ blank 4))
 
 -- an unaddressed device without a key: from this flash and record to those
 abbrev pub plain : List ℕ → List ℕ → List ℕ → List Shown → List ℕ → List ℕ → Row
@@ -178,7 +182,7 @@ infoReply = replies 1 (128 ∷ 0 ∷ 0 ∷ 0 ∷ 64 ∷ 0 ∷ 0 ∷ 0 ∷ 0xFF �
 
 -- row 1: a length of 52 is read, 53 is too long, and 53 in another's reply is silence
 abbrev pub row1 : Row
-row1 = kept (blank 128) 0xFF (info (replicate {A = ℕ} 52 0) ++ (header 2 0 53 ++ header 2 1 53)) (infoReply ∷ refused 6 ∷ silence ∷ [])
+row1 = kept (blank 128) 0xFF (info (replicate {A = ℕ} 52 0) ++ (header 2 0 53 ++ header 2 1 53)) (infoReply ∷ refusedWith 6 ∷ silence ∷ [])
 
 -- row 2: an AA before AA 55
 abbrev pub row2 : Row
@@ -186,31 +190,31 @@ row2 = kept (blank 128) 0xFF (0xAA ∷ info []) (infoReply ∷ [])
 
 -- row 3: command 6 with status 1, unaddressed and addressed
 abbrev pub row3 : Row
-row3 = kept (blank 128) 0xFF (header 6 1 0) (refused 5 ∷ [])
+row3 = kept (blank 128) 0xFF (header 6 1 0) (refusedWith 5 ∷ [])
 
 abbrev pub row3-addressed : Row
 row3-addressed = named (header 6 1 0) (silence ∷ [])
 
 -- row 4: with no run open a Write at 32 is refused, at 64 taken
 abbrev pub row4 : Row
-row4 = kept (blank 192) 0x7F (write 32 0 (1 ∷ []) ++ write 64 0 (1 ∷ [])) (refused 4 ∷ ok ∷ [])
+row4 = kept (blank 192) 0x7F (write 32 0 (1 ∷ []) ++ write 64 0 (1 ∷ [])) (refusedWith 4 ∷ ok ∷ [])
 
 -- row 5: ten bytes at 64; then 128 is refused, 74 taken
 abbrev pub row5 : Row
 row5 =
     kept (blank 192) 0x7F (write 64 0 (replicate {A = ℕ} 10 7) ++ (write 128 0 (1 ∷ []) ++ write 74 0 (1 ∷ [])))
-    (ok ∷ refused 4 ∷ ok ∷ [])
+    (ok ∷ refusedWith 4 ∷ ok ∷ [])
 
 -- row 6: a Write of nothing at 128 opens a run, so that 0 is refused
 abbrev pub row6 : Row
-row6 = kept (blank 192) 0x7F (write 128 0 [] ++ write 0 0 []) (ok ∷ refused 4 ∷ [])
+row6 = kept (blank 192) 0x7F (write 128 0 [] ++ write 0 0 []) (ok ∷ refusedWith 4 ∷ [])
 
 -- row 7: sizes 0 and one past the capacity are refused, the capacity is taken
 abbrev pub row7 : Row
 row7 =
-    plain (blank 128) (inState 0x7F) (verify 0 ++ (verify 129 ++ verify 128)) (refused 4 ∷ refused 4 ∷ replies 1 (0xA3 ∷ 0x1D ∷ []) 0 ∷ [])
+    plain (blank 128) (inState 0x7F) (verify 0 ++ (verify 129 ++ verify 128)) (refusedWith 4 ∷ refusedWith 4 ∷ replies 1 (0xA3 ∷ 0x1D ∷ []) 0 ∷ [])
     (blank 128)
-    (recorded 0x1DA3 128)
+    (validatedAs 0x1DA3 128)
 
 -- row 8: with the key 04030201, sizes 2 and 5 are Incompatible, and 6 is taken with the key in front
 abbrev pub row8 : Row
@@ -222,9 +226,9 @@ row8 =
       meta = inState 0x7F;
       starts = 0;
       stream = verify 2 ++ (verify 5 ++ verify 6);
-      answers = refused 7 ∷ refused 7 ∷ replies 1 (0x20 ∷ 0x55 ∷ []) 0 ∷ [];
+      answers = refusedWith 7 ∷ refusedWith 7 ∷ replies 1 (0x20 ∷ 0x55 ∷ []) 0 ∷ [];
       flashAfter = 1 ∷ 2 ∷ 3 ∷ 4 ∷ blank 60;
-      metaAfter = recorded 0x5520 6;
+      metaAfter = validatedAs 0x5520 6;
     }
 
 -- row 9: trials FF have eight steps, the seventh leaves 1; B0 goes to 10, then to 0
@@ -244,7 +248,7 @@ row11 = plain (0x0F ∷ blank 63) (inState 0x7F) (write 0 0x80 (0x3C ∷ [])) (o
 -- row 12: counts 0 and 96 are refused, 64 is taken
 abbrev pub row12 : Row
 row12 =
-    plain (replicate {A = ℕ} 128 0) (inState 0xFF) (erase 64 0 ++ (erase 0 96 ++ erase 64 64)) (refused 4 ∷ refused 4 ∷ ok ∷ [])
+    plain (replicate {A = ℕ} 128 0) (inState 0xFF) (erase 64 0 ++ (erase 0 96 ++ erase 64 64)) (refusedWith 4 ∷ refusedWith 4 ∷ ok ∷ [])
     (replicate {A = ℕ} 64 0 ++ blank 64)
     (inState 0x7F)
 

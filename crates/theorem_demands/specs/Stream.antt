@@ -1,70 +1,62 @@
 -- A stream as one uncut list: frame after frame by 01's rules, as far as the first accepted Reset.
 use Prim.Native.Nat.{ℕ, zero, suc, _+_}
-use mathlib.Core.Bool.{Bool, true, false}
+use mathlib.Core.Bool.{true}
 use mathlib.Core.List.{List, [], _∷_, _++_}
 use lib.ListN.{length, take, replicate}
-use Rattle.laws.specs.Pick.{pick}
-use Rattle.wire_frames.specs.Reading.{kindStatus, Outcome, Begun, Ended, readFrame}
-use Rattle.wire_frames.specs.Stored.{begun, store, ready}
+use Rattle.laws.specs.Pick.{if_then_else_}
+use Rattle.wire_frames.specs.Reading.{Outcome, Begun, Ended, readFrame}
+use Rattle.wire_frames.specs.Stored.{begun, ready, outOf}
 use Rattle.device_state.specs.declared.Setup.{Setup}
-use Rattle.device_state.specs.declared.State.{State}
+use Rattle.device_state.specs.State.{World}
 use Rattle.device_replies.specs.Answers.{Told}
-use Rattle.device_handler.specs.Handling.{Held, held}
 use Rattle.device_dispatcher.specs.Dispatch.{Ending, dispatchOf}
-use Rattle.device_state.specs.State.{stateWith}
+use Rattle.device_feed.specs.Feed.{holding}
 
 -- a frame that has ended: what is said of it, and its reply
 pub record Event : Type 0 where
   pub told : Told
   pub reply : List ℕ
 
--- what a stream comes to: its frames in order, and the state, the flash and the record at its end
+abbrev pub eventOf : Told → List ℕ → Event
+eventOf told room = record { told = told; reply = take (told .len) room }
+
+-- what a stream comes to: its frames in order, and the world at its end
 pub record Story : Type 0 where
   pub events : List Event
-  pub state : State
-  pub flash : List ℕ
-  pub meta : List ℕ
+  pub left : World
 
-abbrev pub ends : Held → ℕ → Bool → Bool → Story
-ends h got selected closed =
-    record {
-      events = [];
-      state = stateWith (h .bytes) got (h .page) (h .fill) (h .next) selected closed;
-      flash = h .flash;
-      meta = h .meta;
-    }
+abbrev pub ends : World → Story
+ends w = record { events = []; left = w }
 
 abbrev pub first : Event → Story → Story
-first e t = record { events = e ∷ t .events; state = t .state; flash = t .flash; meta = t .meta }
+first e t = record { events = e ∷ t .events; left = t .left }
 
-abbrev pub eventOf : Ending → Event
-eventOf e = record { told = e .told; reply = take (e .told .len) (e .room) }
-
--- the frame's bytes once q has come over AA 55, all else as it was
-abbrev pub holding : ℕ → Held → List ℕ → Held
-holding cap h q = held (store cap (ready (h .bytes)) q) (h .page) (h .fill) (h .next) (h .flash) (h .meta)
+-- the world once a reading's bytes have come: stored over AA 55, all begun where no frame has ended, and else none
+abbrev pub arrived : ℕ → World → Outcome → World
+arrived cap w o = holding (outOf cap (ready (w .state .frame)) 0 o) w
 
 -- after a frame: a restart ends the stream, else it goes on with the rest
-abbrev pub goesOn : (Held → Bool → List ℕ → Story) → List ℕ → Ending → Story
-goesOn rest r e = first (eventOf e) (pick (e .closed) (ends (e .left) 0 (e .selected) true) (rest (e .left) (e .selected) r))
+abbrev pub goesOn : (World → List ℕ → Story) → List ℕ → World → Story
+goesOn rest r w = if w .state .numbers .closed then ends w else rest w r
+
+-- a frame's end, and what follows it
+abbrev pub followed : (World → Story) → Ending → Story
+followed on e = first (eventOf (e .told) (e .room)) (on (e .left))
 
 -- a reading: the stream ends in a frame begun, or a frame has ended and is acted on, with a reply room of its own
-abbrev pub acted : ℕ → ℕ → Setup → Held → Bool → (Held → Bool → List ℕ → Story) → Outcome → Story
-acted cap page s h selected rest (Begun q) = ends (holding cap h q) (length q) selected false
-acted cap page s h selected rest (Ended k q r) =
-    goesOn rest r (dispatchOf cap page s (kindStatus k) (holding cap h q) selected (replicate {A = ℕ} (12 + cap) 0))
+abbrev pub acted : ℕ → ℕ → Setup → World → (World → List ℕ → Story) → Outcome → Story
+acted cap page s w rest (Begun q) = ends (arrived cap w (Begun q))
+acted cap page s w rest (Ended k q r) =
+    followed (goesOn rest r) (dispatchOf cap page s k (arrived cap w (Ended k q r)) (replicate {A = ℕ} (12 + cap) 0))
 
 -- at most n frames: each takes a byte or more, so as many as there are bytes are enough
-unfoldable pub streamOf : ℕ → ℕ → Setup → ℕ → Held → Bool → List ℕ → Story
-streamOf cap page s zero h selected l = ends h 0 selected false
-streamOf cap page s (suc n) h selected l = acted cap page s h selected (streamOf cap page s n) (readFrame cap true l)
+unfoldable pub streamOf : ℕ → ℕ → Setup → ℕ → World → List ℕ → Story
+streamOf cap page s zero w l = ends w
+streamOf cap page s (suc n) w l = acted cap page s w (streamOf cap page s n) (readFrame cap true l)
 
--- from a state on: the bytes of the frame begun in it, and those that come, are one list
-abbrev pub whole : ℕ → State → List ℕ → List ℕ
-whole cap st l = begun cap (st .frame .bytes) (st .frame .got) ++ l
+-- from a world on: the bytes of the frame begun in it, and those that come, are one list
+abbrev pub wholeOf : ℕ → World → List ℕ → List ℕ
+wholeOf cap w l = begun cap (w .state .frame) (w .state .numbers .got) ++ l
 
-abbrev pub storyOf : ℕ → ℕ → Setup → State → List ℕ → List ℕ → List ℕ → Story
-storyOf cap page s st l flash meta =
-    streamOf cap page s (suc (length (whole cap st l)))
-    (held (st .frame .bytes) (st .page) (st .fill) (st .next) flash meta)
-    (st .selected) (whole cap st l)
+abbrev pub storyOf : ℕ → ℕ → Setup → World → List ℕ → Story
+storyOf cap page s w l = streamOf cap page s (suc (length (wholeOf cap w l))) w (wholeOf cap w l)

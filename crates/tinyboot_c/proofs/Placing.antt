@@ -9,7 +9,8 @@ use Rattle.laws.specs.Over.{over}
 use Rattle.device_replies.specs.Answers.{Told, toldOf}
 use Rattle.device_feed.specs.declared.Passed.{Passed}
 use Rattle.device_feed.specs.Feed.{Called}
-use Rattle.device_in_place.specs.On.{restIn, CalledOn, calledOn, onBy}
+use Rattle.device_in_place.specs.On.{restIn, CalledOn, onBy}
+use Rattle.device_in_place.specs.Inner.{calledOn}
 use Rattle.c_layout.specs.declared.Said.{Said}
 use Rattle.c_layout.specs.Layout.{numberBytes, partBytes, answerBytes}
 use Rattle.tinyboot_c.specs.Calls
@@ -35,22 +36,22 @@ rest-size s l = simp (length-drop) (omega arith)
 module _ (answer : List ℕ) where
   abbrev left : CalledOn → Calls.AfterFeed
   left y =
-      Calls.afterFeed (y .told .number) (paste (y .bytes) 128 (numberBytes (y .got) (y .fill) (y .next) (y .selected) (y .closed)) 8) (y .flash) (y .meta) (y .room)
+      Calls.afterFeed (y .told .number) (paste (y .bytes) 128 (numberBytes (y .numbers)) 8) (y .flash) (y .meta) (y .room)
       (over (answerBytes (y .told) (y .taken)) answer)
 
   -- s is the state's bytes before the call, t after it; u those with their numbers
   pub fed-placed : (p : Passed) (s t flash meta reply : List ℕ) (x : Called) → length s ≡ 136 → length t ≡ 136 →
       calledOn p t flash meta reply ≡ onBy (restIn 52 64 s) x →
       (said : Said) → toldBy said ≡ toldOf (p .answer) → (r : ℕ) → r ≡ said .number →
-      (u : List ℕ) → u ≡ paste t 128 (numberBytes (p .got) (p .fill) (p .next) (p .selected) (p .closed)) 8 →
+      (u : List ℕ) → u ≡ paste t 128 (numberBytes (p .numbers)) 8 →
       (a : List ℕ) → a ≡ over (answerBytes (toldBy said) (p .taken)) answer →
       Calls.afterFeed r u flash meta reply a ≡ Calls.feedCalled x answer
   fed-placed p s t flash meta reply x ls lt e said k r kr u ku a ka =
       let n : r ≡ toldOf (p .answer) .number = kr ∙ ap (λ (v : Told). v .number) k in
       let ra : a ≡ over (answerBytes (toldOf (p .answer)) (p .taken)) answer = ka ∙ ap (λ (v : Told). over (answerBytes v (p .taken)) answer) k in
-      let lx : length (x .state .frame .bytes ++ (x .state .page ++ restIn 52 64 s)) ≡ 136 = ap (λ (v : CalledOn). length (v .bytes)) (sym e) ∙ lt in
-      let nx : List ℕ = numberBytes (x .state .frame .got) (x .state .fill) (x .state .next) (x .state .selected) (x .state .closed) in
+      let lx : length (x .left .state .frame ++ (x .left .state .page ++ restIn 52 64 s)) ≡ 136 = ap (λ (v : CalledOn). length (v .bytes)) (sym e) ∙ lt in
+      let nx : List ℕ = numberBytes (x .left .state .numbers) in
       let ln : length nx ≡ 8 = refl in
       rw (n, ku, ra) refl ∙ ap left e ∙
-      ap (λ (v : List ℕ). Calls.afterFeed (x .told .number) v (x .flash) (x .meta) (x .room) (over (answerBytes (x .told) (x .taken)) answer))
-      (placed (x .state .frame .bytes) (x .state .page) (restIn 52 64 s) nx lx (rest-size s ls) ln)
+      ap (λ (v : List ℕ). Calls.afterFeed (x .told .number) v (x .left .flash) (x .left .meta) (x .room) (over (answerBytes (x .told) (x .taken)) answer))
+      (placed (x .left .state .frame) (x .left .state .page) (restIn 52 64 s) nx lx (rest-size s ls) ln)

@@ -21,13 +21,15 @@ use Rattle.wire_frames.specs.Fields.{lenOf}
 use Rattle.wire_frames.specs.Reading.{verdictOf}
 use Rattle.wire_frames.specs.Stored.{goes, wellOf}
 use Rattle.wire_frames.proofs.Reading.{going-size}
+use Rattle.device_state.specs.declared.Setup.{Setup}
+use Rattle.device_state.specs.declared.Numbers.{Numbers}
 use Rattle.device_state.specs.declared.State.{State}
 use Rattle.device_state.specs.Refusals.{runFits, wellFormed}
 use Rattle.device_replies.specs.Answers.{mute}
-use Rattle.device_state.specs.State.{stateWith}
+use Rattle.device_state.specs.State.{World, stateWith, numbered}
 use Rattle.device_feed.specs.Feed.{Called, refusalFor, refusedBy, takenOf, fedOf}
-use Rattle.c_layout.specs.Layout.{part, setupFrom, holdsState, stateFrom, flagByte, numberBytes, partBytes, stateBytes, answerBytes}
-use Rattle.tinyboot_c.specs.Calls.{afterFeed, feedCalled}
+use Rattle.c_layout.specs.Layout.{part, setupFrom, holdsState, numbersFrom, stateFrom, flagByte, numberBytes, partBytes, stateBytes, answerBytes}
+use Rattle.tinyboot_c.specs.Calls.{afterFeed, feedCalled, worldFrom}
 use Rattle.tinyboot_c.proofs.Copies.{part-four}
 use Rattle.c_layout.proofs.Holding.{holds-size, holds-flags}
 
@@ -58,42 +60,43 @@ module _ (f p n : List ℕ) (lf : length f ≡ 64) (lp : length p ≡ 64) where
   number-at i = sym (getD-drop 128 (partBytes f p n) i 0) ∙ ap (λ (v : List ℕ). getD v i 0) last-part
 
 -- written, then read
-module _ (f p : List ℕ) (lf : length f ≡ 64) (lp : length p ≡ 64) (got fill next : ℕ) (selected closed : Bool)
-    (hg : got < 256) (hf : fill < 256) (hn : next < 256 ^ 4) where
+module _ (f p : List ℕ) (lf : length f ≡ 64) (lp : length p ≡ 64) (m : Numbers) (hg : m .got < 256) (hf : m .fill < 256) (hn : m .next < 256 ^ 4) where
   abbrev n : List ℕ
-  n = numberBytes got fill next selected closed
+  n = numberBytes m
 
   abbrev l : List ℕ
   l = partBytes f p n
 
-  next-read : lowFirst (part 128 4 l) ≡ next
-  next-read = ap (λ (v : List ℕ). lowFirst (take 4 v)) (last-part f p n lf lp) ∙ low-read 4 next ∙ mod-eq-of-lt hn
+  next-read : lowFirst (part 128 4 l) ≡ m .next
+  next-read = ap (λ (v : List ℕ). lowFirst (take 4 v)) (last-part f p n lf lp) ∙ low-read 4 (m .next) ∙ mod-eq-of-lt hn
 
-  got-read : getD l 132 0 ≡ got
+  got-read : getD l 132 0 ≡ m .got
   got-read = number-at f p n lf lp 4 ∙ mod-eq-of-lt hg
 
-  fill-read : getD l 133 0 ≡ fill
+  fill-read : getD l 133 0 ≡ m .fill
   fill-read = number-at f p n lf lp 5 ∙ mod-eq-of-lt hf
 
-  selected-read : eqb (getD l 134 0) 1 ≡ selected
-  selected-read = ap (λ (v : ℕ). eqb v 1) (number-at f p n lf lp 6) ∙ flag-read selected
+  selected-read : eqb (getD l 134 0) 1 ≡ m .selected
+  selected-read = ap (λ (v : ℕ). eqb v 1) (number-at f p n lf lp 6) ∙ flag-read (m .selected)
 
-  closed-read : eqb (getD l 135 0) 1 ≡ closed
-  closed-read = ap (λ (v : ℕ). eqb v 1) (number-at f p n lf lp 7) ∙ flag-read closed
+  closed-read : eqb (getD l 135 0) 1 ≡ m .closed
+  closed-read = ap (λ (v : ℕ). eqb v 1) (number-at f p n lf lp 7) ∙ flag-read (m .closed)
 
-  parts-read : stateFrom 52 64 l ≡ stateWith f got p fill next selected closed
+  numbers-read : numbersFrom 52 64 l ≡ m
+  numbers-read = numbers-same _ _ got-read _ _ fill-read _ _ next-read _ _ selected-read _ _ closed-read
+    where
+      numbers-same : (g g' : ℕ) → g ≡ g' → (w w' : ℕ) → w ≡ w' → (x x' : ℕ) → x ≡ x' → (s s' : Bool) → s ≡ s' → (c c' : Bool) → c ≡ c' →
+          numbered g w x s c ≡ numbered g' w' x' s' c'
+      numbers-same g g' eg w w' ew x x' ex s s' es c c' ec = rw (eg, ew, ex, es, ec) refl
+
+  parts-read : stateFrom 52 64 l ≡ stateWith f p m
   parts-read =
-      ap (λ (v : List ℕ). stateWith v (getD l 132 0) (part 64 64 l) (getD l 133 0) (lowFirst (part 128 4 l)) (eqb (getD l 134 0) 1) (eqb (getD l 135 0) 1)) (first-part f p n lf lp) ∙
-      ap (λ (v : List ℕ). stateWith f (getD l 132 0) v (getD l 133 0) (lowFirst (part 128 4 l)) (eqb (getD l 134 0) 1) (eqb (getD l 135 0) 1)) (second-part f p n lf lp) ∙
-      ap (λ (v : ℕ). stateWith f v p (getD l 133 0) (lowFirst (part 128 4 l)) (eqb (getD l 134 0) 1) (eqb (getD l 135 0) 1)) got-read ∙
-      ap (λ (v : ℕ). stateWith f got p v (lowFirst (part 128 4 l)) (eqb (getD l 134 0) 1) (eqb (getD l 135 0) 1)) fill-read ∙
-      ap (λ (v : ℕ). stateWith f got p fill v (eqb (getD l 134 0) 1) (eqb (getD l 135 0) 1)) next-read ∙
-      ap (λ (v : Bool). stateWith f got p fill next v (eqb (getD l 135 0) 1)) selected-read ∙
-      ap (λ (v : Bool). stateWith f got p fill next selected v) closed-read
+      ap (λ (v : List ℕ). stateWith v (part 64 64 l) (numbersFrom 52 64 l)) (first-part f p n lf lp) ∙
+      ap (λ (v : List ℕ). stateWith f v (numbersFrom 52 64 l)) (second-part f p n lf lp) ∙ ap (stateWith f p) numbers-read
 
-pub written-read : (s : State) → length (s .frame .bytes) ≡ 64 → length (s .page) ≡ 64 → s .frame .got < 256 → s .fill < 256 → s .next < 256 ^ 4 →
+pub written-read : (s : State) → length (s .frame) ≡ 64 → length (s .page) ≡ 64 → s .numbers .got < 256 → s .numbers .fill < 256 → s .numbers .next < 256 ^ 4 →
     stateFrom 52 64 (stateBytes s) ≡ s
-written-read s lf lp hg hf hn = parts-read (s .frame .bytes) (s .page) lf lp (s .frame .got) (s .fill) (s .next) (s .selected) (s .closed) hg hf hn
+written-read s lf lp hg hf hn = parts-read (s .frame) (s .page) lf lp (s .numbers) hg hf hn
 
 -- read, then written
 module _ (l : List ℕ) (h : holdsState 52 64 l ≡ true) (byte : (i : ℕ) → i < length l → getD l i 0 < 256) where
@@ -151,7 +154,8 @@ got-small : (f : List ℕ) (g : ℕ) → wellOf 52 true f g ≡ true → g < 64
 unfolding wellOf
 got-small f g e = last (or-either (leb g 9) (goes (verdictOf 52 true f) && ltb g (12 + lenOf f)) (y .1))
   where
-    x : (leb g 0 || eqb (getD f 0 0) 0xAA ≡ true) × ((leb g 1 || eqb (getD f 1 0) 0x55) && (leb g 9 || (goes (verdictOf 52 true f) && ltb g (12 + lenOf f))) ≡ true)
+    x : (leb g 0 || eqb (getD f 0 0) 0xAA ≡ true) ×
+        ((leb g 1 || eqb (getD f 1 0) 0x55) && (leb g 9 || (goes (verdictOf 52 true f) && ltb g (12 + lenOf f))) ≡ true)
     x = and-both (leb g 0 || eqb (getD f 0 0) 0xAA) ((leb g 1 || eqb (getD f 1 0) 0x55) && (leb g 9 || (goes (verdictOf 52 true f) && ltb g (12 + lenOf f)))) e
 
     y : (leb g 1 || eqb (getD f 1 0) 0x55 ≡ true) × (leb g 9 || (goes (verdictOf 52 true f) && ltb g (12 + lenOf f)) ≡ true)
@@ -170,25 +174,27 @@ unfolding runFits
 fill-small capacity fill next e =
     ltb-true fill 64 (and-both (ltb fill 64) (pick (eqb next 0xFFFFFFFF) (eqb fill 0) (leb next capacity && eqb (next % 64) fill)) e .0)
 
-pub well-small : (capacity : ℕ) (s : State) → wellFormed 52 64 capacity (s .frame .bytes) (s .frame .got) (s .fill) (s .next) ≡ true →
-    (s .frame .got < 256) × (s .fill < 256)
+pub well-small : (setup : Setup) (s : State) → wellFormed 52 64 setup (s .frame) (s .numbers) ≡ true → (s .numbers .got < 256) × (s .numbers .fill < 256)
 unfolding wellFormed
-well-small capacity s e =
-    let two = and-both (runFits 64 capacity (s .fill) (s .next)) (wellOf 52 true (s .frame .bytes) (s .frame .got)) e in
-    let g : s .frame .got < 64 = got-small (s .frame .bytes) (s .frame .got) (two .1) in
-    let f : s .fill < 64 = fill-small capacity (s .fill) (s .next) (two .0) in
+well-small setup s e =
+    let two = and-both (runFits 64 (setup .capacity) (s .numbers .fill) (s .numbers .next)) (wellOf 52 true (s .frame) (s .numbers .got)) e in
+    let g : s .numbers .got < 64 = got-small (s .frame) (s .numbers .got) (two .1) in
+    let f : s .numbers .fill < 64 = fill-small (setup .capacity) (s .numbers .fill) (s .numbers .next) (two .0) in
     (omega (arith, g), omega (arith, f))
 
 -- a call that the device refuses leaves every buffer but the answer's as it was
-pub refused-kept : (setup state bytes flash meta reply answer : List ℕ) → holdsState 52 64 state ≡ true → ((i : ℕ) → i < length state → getD state i 0 < 256) →
-    eqb (refusalFor 52 64 (setupFrom setup) (stateFrom 52 64 state) flash meta reply) 0 ≡ false →
-    feedCalled (fedOf 52 64 (setupFrom setup) (stateFrom 52 64 state) bytes flash meta reply) answer ≡
-    afterFeed (refusalFor 52 64 (setupFrom setup) (stateFrom 52 64 state) flash meta reply) state flash meta reply
-    (over (answerBytes (mute (refusalFor 52 64 (setupFrom setup) (stateFrom 52 64 state) flash meta reply)) 0) answer)
-unfolding fedOf
-refused-kept setup state bytes flash meta reply answer h byte e =
-    let n : ℕ = refusalFor 52 64 (setupFrom setup) (stateFrom 52 64 state) flash meta reply in
-    let x : Called = takenOf 52 64 (setupFrom setup) (stateFrom 52 64 state) bytes flash meta reply in
-    let y : Called = refusedBy n (stateFrom 52 64 state) flash meta reply in
-    ap (λ (t : Bool). feedCalled (pick t x y) answer) e ∙
-    ap (λ (v : List ℕ). afterFeed n v flash meta reply (over (answerBytes (mute n) 0) answer)) (read-written state h byte)
+module _ (setup state bytes flash meta reply answer : List ℕ) where
+  abbrev w : World
+  w = worldFrom 52 64 state flash meta
+
+  abbrev number : ℕ
+  number = refusalFor 52 64 (setupFrom setup) w reply
+
+  pub refused-kept : holdsState 52 64 state ≡ true → ((i : ℕ) → i < length state → getD state i 0 < 256) → eqb number 0 ≡ false →
+      feedCalled (fedOf 52 64 (setupFrom setup) w bytes reply) answer ≡ afterFeed number state flash meta reply (over (answerBytes (mute number) 0) answer)
+  unfolding fedOf
+  refused-kept h byte e =
+      let x : Called = takenOf 52 64 (setupFrom setup) w bytes reply in
+      let y : Called = refusedBy number w reply in
+      ap (λ (t : Bool). feedCalled (pick t x y) answer) e ∙
+      ap (λ (v : List ℕ). afterFeed number v flash meta reply (over (answerBytes (mute number) 0) answer)) (read-written state h byte)

@@ -7,62 +7,58 @@ use native.Mathlib.Nat.{mod-eq-of-lt}
 use native.Mathlib.Omega.{arith}
 use lib.ListN.{length, getD, take, drop, set, length-append, length-set, length-drop}
 use lib.Seq.{set-at, set-append-left, take-at, drop-at, length-take-le}
-use lib.Dec.{eqb}
 use Rattle.laws.specs.Low.{lowFirst, lowBytes}
 use Rattle.laws.specs.Over.{over}
-use Rattle.device_state.specs.declared.Setup.{Setup}
-use Rattle.device_state.specs.declared.State.{State}
+use Rattle.device_state.specs.declared.Numbers.{Numbers}
 use Rattle.device_replies.specs.Answers.{Told, mute}
-use Rattle.device_state.specs.State.{stateWith}
+use Rattle.device_state.specs.State.{gotSet, stateWith}
 use Rattle.device_feed.specs.Feed.{Called, fedOf}
-use Rattle.device_in_place.specs.On.{stateIn}
+use Rattle.device_in_place.specs.On.{frameIn, pageIn}
 use Rattle.device_in_place.specs.Byte.{laidTo, byteOn}
 use Rattle.device_in_place.proofs.Quick.{byte-laid, byte-within, byte-fed}
-use Rattle.c_layout.specs.Layout.{part, setupFrom, holdsState, stateFrom, flagByte, numberBytes, partBytes, stateBytes, answerBytes}
+use Rattle.c_layout.specs.Layout.{part, setupFrom, holdsState, numbersFrom, flagByte, numberBytes, partBytes, stateBytes, answerBytes}
 use Rattle.tinyboot_c.specs.Calls.{AfterFeed, afterFeed, feedCalled}
 use Rattle.c_layout.specs.Inner.{toldBy}
-use Rattle.tinyboot_c.specs.Inner.{numbersFrom, ByteFed}
+use Rattle.tinyboot_c.specs.Inner.{ByteFed}
 use Rattle.c_layout.specs.declared.Said.{Said}
-use Rattle.tinyboot_c.specs.declared.state.Numbers.{Numbers}
 use Rattle.c_layout.proofs.Holding.{holds-size}
 use Rattle.tinyboot_c.proofs.Round.{read-written}
 
 -- in three parts: the byte at g of the first, and the count in the last
-module _ (f p : List ℕ) (lf : length f ≡ 64) (lp : length p ≡ 64) (got fill next : ℕ) (selected closed : Bool) (g b : ℕ) (h : g < 64) where
+module _ (f p : List ℕ) (lf : length f ≡ 64) (lp : length p ≡ 64) (n : Numbers) (g b : ℕ) (h : g < 64) where
   abbrev low : List ℕ
-  low = lowBytes 4 next
+  low = lowBytes 4 (n .next)
 
   abbrev rest : List ℕ
-  rest = fill % 256 ∷ flagByte selected ∷ flagByte closed ∷ []
+  rest = n .fill % 256 ∷ flagByte (n .selected) ∷ flagByte (n .closed) ∷ []
 
-  stored : set (partBytes f p (numberBytes got fill next selected closed)) g b ≡ partBytes (set f g b) p (numberBytes got fill next selected closed)
-  stored = set-append-left f (p ++ numberBytes got fill next selected closed) g b (rw lf h)
+  stored : set (partBytes f p (numberBytes n)) g b ≡ partBytes (set f g b) p (numberBytes n)
+  stored = set-append-left f (p ++ numberBytes n) g b (rw lf h)
 
   apart : (x : ℕ) (d : List ℕ) → d ++ (p ++ (low ++ (x ∷ rest))) ≡ (d ++ (p ++ low)) ++ (x ∷ rest)
   apart x d =
       ap (λ (v : List ℕ). d ++ v) (sym (append-assoc p low (x ∷ rest))) ∙ sym (append-assoc d (p ++ low) (x ∷ rest))
 
-  pub counted : (n : ℕ) → n < 256 →
-      set (set (partBytes f p (numberBytes got fill next selected closed)) g b) 132 n ≡ partBytes (set f g b) p (numberBytes n fill next selected closed)
-  counted n k =
+  pub counted : (m : ℕ) → m < 256 → set (set (partBytes f p (numberBytes n)) g b) 132 m ≡ partBytes (set f g b) p (numberBytes (gotSet m n))
+  counted m k =
       let d : List ℕ = set f g b in
       let ld : length d ≡ 64 = length-set f g b ∙ lf in
       let long : length (d ++ (p ++ low)) ≡ 132 = simp (length-append) (omega (arith, ld, lp)) in
-      ap (λ (v : List ℕ). set v 132 n) (stored ∙ apart (got % 256) d) ∙
-      set-at (d ++ (p ++ low)) (got % 256) rest n 132 long ∙
-      sym (apart n d) ∙
+      ap (λ (v : List ℕ). set v 132 m) (stored ∙ apart (n .got % 256) d) ∙
+      set-at (d ++ (p ++ low)) (n .got % 256) rest m 132 long ∙
+      sym (apart m d) ∙
       ap (λ (v : ℕ). partBytes d p (low ++ (v ∷ rest))) (sym (mod-eq-of-lt k))
 
 -- what `byte_on` says, t, and leaves of a state, by what stands in the setup's and the state's bytes
 abbrev pub OnByte : List ℕ → List ℕ → ℕ → ℕ → ℕ → ℕ → List ℕ → Bool → Type 0
 OnByte setup state b flash meta room after t =
-    laidTo t after ≡ byteOn 52 64 (setupFrom setup .«erase_size») (setupFrom setup .capacity) (setupFrom setup .«id_len») (getD state 132 0) (getD state 133 0)
-    (lowFirst (part 128 4 state)) (eqb (getD state 135 0) 1) state b flash meta room
+    laidTo t after ≡
+    byteOn 52 64 (setupFrom setup .«erase_size») (setupFrom setup .capacity) (setupFrom setup .«id_len») (numbersFrom 52 64 state) state b flash meta room
 
 -- the numbers that the code read are those that stand there
 pub byte-known : (setup state : List ℕ) (b flash meta room : ℕ) (r : Bool) (after : List ℕ) (erase capacity idLen : ℕ) (n : Numbers) →
-    laidTo r after ≡ byteOn 52 64 erase capacity idLen (n .got) (n .fill) (n .next) (n .closed) state b flash meta room →
-    erase ≡ lowFirst (part 0 4 setup) → capacity ≡ lowFirst (part 4 4 setup) → idLen ≡ getD setup 8 0 → n ≡ numbersFrom state → (t : Bool) → r ≡ t →
+    laidTo r after ≡ byteOn 52 64 erase capacity idLen n state b flash meta room →
+    erase ≡ lowFirst (part 0 4 setup) → capacity ≡ lowFirst (part 4 4 setup) → idLen ≡ getD setup 8 0 → n ≡ numbersFrom 52 64 state → (t : Bool) → r ≡ t →
     OnByte setup state b flash meta room after t
 byte-known setup state b flash meta room r after erase capacity idLen n e ke kc ki kn t w = rw (w, ke, kc, ki, kn) at e
 
@@ -74,31 +70,26 @@ byte-answered said k result kr state f m r answer laid kl x e =
     let z : result ≡ 0 = kr ∙ ap (λ (v : Told). v .number) k in
     rw (z, kl, k) e
 
-module _ (setup state : List ℕ) (h : holdsState 52 64 state ≡ true) (byte : (i : ℕ) → i < length state → getD state i 0 < 256) (b flash meta room : ℕ) (after : List ℕ)
+module _ (setup state : List ℕ) (h : holdsState 52 64 state ≡ true) (byte : (i : ℕ) → i < length state → getD state i 0 < 256) (b flash meta room : ℕ)
+    (after : List ℕ)
     (e : OnByte setup state b flash meta room after true) where
+  abbrev n : Numbers
+  n = numbersFrom 52 64 state
+
   abbrev got : ℕ
   got = getD state 132 0
-
-  abbrev fill : ℕ
-  fill = getD state 133 0
-
-  abbrev next : ℕ
-  next = lowFirst (part 128 4 state)
-
-  abbrev selected : Bool
-  selected = eqb (getD state 134 0) 1
-
-  abbrev closed : Bool
-  closed = eqb (getD state 135 0) 1
 
   size : length state ≡ 136
   size = holds-size state h
 
+  laid-in : after ≡ set state got b
+  laid-in = byte-laid (setupFrom setup) state n b flash meta room after e
+
   pub within : got < 64
-  within = byte-within (setupFrom setup) state got fill next selected closed b flash meta room after e
+  within = byte-within (setupFrom setup) state n b flash meta room after e
 
   pub after-size : length after ≡ 136
-  after-size = ap length (byte-laid (setupFrom setup) state got fill next selected closed b flash meta room after e) ∙ length-set state got b ∙ size
+  after-size = ap length laid-in ∙ length-set state got b ∙ size
 
   -- the parts of the state before, and of the bytes after
   abbrev f : List ℕ
@@ -113,34 +104,30 @@ module _ (setup state : List ℕ) (h : holdsState 52 64 state ≡ true) (byte : 
   lp : length p ≡ 64
   lp = length-take-le 64 (drop 64 state) (omega (arith, length-drop 64 state, size))
 
-  whole : state ≡ partBytes f p (numberBytes got fill next selected closed)
+  whole : state ≡ partBytes f p (numberBytes n)
   whole = sym (read-written state h byte)
 
-  laid : after ≡ partBytes (set f got b) p (numberBytes got fill next selected closed)
-  laid =
-      byte-laid (setupFrom setup) state got fill next selected closed b flash meta room after e ∙
-      ap (λ (v : List ℕ). set v got b) whole ∙
-      stored f p lf lp got fill next selected closed got b within
+  laid : after ≡ partBytes (set f got b) p (numberBytes n)
+  laid = laid-in ∙ ap (λ (v : List ℕ). set v got b) whole ∙ stored f p lf lp n got b within
 
   frame-after : part 0 64 after ≡ set f got b
-  frame-after = ap (take 64) laid ∙ take-at (set f got b) (p ++ numberBytes got fill next selected closed) 64 (length-set f got b ∙ lf)
+  frame-after = ap (take 64) laid ∙ take-at (set f got b) (p ++ numberBytes n) 64 (length-set f got b ∙ lf)
 
   page-after : part 64 64 after ≡ p
   page-after =
-      ap (λ (v : List ℕ). take 64 (drop 64 v)) laid ∙
-      ap (take 64) (drop-at (set f got b) (p ++ numberBytes got fill next selected closed) 64 (length-set f got b ∙ lf)) ∙
-      take-at p (numberBytes got fill next selected closed) 64 lp
+      ap (λ (v : List ℕ). take 64 (drop 64 v)) laid ∙ ap (take 64) (drop-at (set f got b) (p ++ numberBytes n) 64 (length-set f got b ∙ lf)) ∙
+      take-at p (numberBytes n) 64 lp
 
-  written : set after 132 (got + 1) ≡ stateBytes (stateIn 52 64 after (got + 1) fill next selected closed)
+  written : set after 132 (got + 1) ≡ stateBytes (stateWith (frameIn 52 after) (pageIn 52 64 after) (gotSet (got + 1) n))
   written =
-      ap (λ (v : List ℕ). set v 132 (got + 1)) (byte-laid (setupFrom setup) state got fill next selected closed b flash meta room after e ∙ ap (λ (v : List ℕ). set v got b) whole) ∙
-      counted f p lf lp got fill next selected closed got b within (got + 1) (omega (arith, within)) ∙
+      ap (λ (v : List ℕ). set v 132 (got + 1)) (laid-in ∙ ap (λ (v : List ℕ). set v got b) whole) ∙
+      counted f p lf lp n got b within (got + 1) (omega (arith, within)) ∙
       (rw (frame-after, page-after) refl)
 
   pub byte-stored : ByteFed setup state (b ∷ []) flash meta room (set after 132 (got + 1)) true
   byte-stored fl me ro answer ef em er =
       ap (λ (v : List ℕ). afterFeed 0 v fl me ro (over (answerBytes (mute 0) 1) answer)) written ∙
-      ap (λ (x : Called). feedCalled x answer) (byte-fed (setupFrom setup) state got fill next selected closed b flash meta room after e fl me ro ef em er)
+      ap (λ (x : Called). feedCalled x answer) (byte-fed (setupFrom setup) state n b flash meta room after e fl me ro ef em er)
 
   pub piece-stored : (bytes : List ℕ) → length bytes ≡ 1 → b ≡ getD bytes 0 0 → ByteFed setup state bytes flash meta room (set after 132 (got + 1)) true
   piece-stored [] k eb = absurd (omega arith)

@@ -1,14 +1,16 @@
--- What the calls of the C interface leave (include/tinyboot.h, Calls). The order of the refusals: a buffer that is no setup's (10), one that is no state's (11),
+-- What the calls of the C interface leave (include/tinyboot.h, Calls). The order of the refusals: a buffer that is no setup's (10), one that is no state's
+-- (11),
 -- then those of the feed or of the start in their own order; too little room for an answer counts as no room (14).
 use Prim.Native.Nat.{ℕ}
-use mathlib.Core.Bool.{Bool, true, false}
+use mathlib.Core.Bool.{not}
 use mathlib.Core.List.{List}
 use lib.ListN.{length}
 use lib.Dec.{eqb, ltb}
-use Rattle.laws.specs.Pick.{pick}
+use Rattle.laws.specs.Pick.{if_then_else_}
 use Rattle.laws.specs.Over.{over}
 use Rattle.device_state.specs.declared.Setup.{Setup}
 use Rattle.device_state.specs.declared.State.{State}
+use Rattle.device_state.specs.State.{World}
 use Rattle.device_state.specs.Refusals.{refusalOf}
 use Rattle.device_replies.specs.Answers.{mute}
 use Rattle.device_feed.specs.Feed.{Called, fedOf}
@@ -34,24 +36,27 @@ feedRefused number state flash meta reply answer = afterFeed number state flash 
 
 -- the refusal where there is no room for an answer: as with none for a reply
 abbrev pub roomless : ℕ → ℕ → Setup → State → ℕ → ℕ → ℕ
-roomless cap page s st flash meta = refusalOf cap page s (st .frame .bytes) (st .frame .got) (st .fill) (st .next) (st .closed) flash meta 0
+roomless cap page s st flash meta = refusalOf cap page s (st .frame) (st .numbers) flash meta 0
 
 -- what the device's call left, in the buffers
 abbrev pub feedCalled : Called → List ℕ → AfterFeed
 feedCalled c answer =
-    afterFeed (c .told .number) (stateBytes (c .state)) (c .flash) (c .meta) (c .room) (over (answerBytes (c .told) (c .taken)) answer)
+    afterFeed (c .told .number) (stateBytes (c .left .state)) (c .left .flash) (c .left .meta) (c .room) (over (answerBytes (c .told) (c .taken)) answer)
+
+-- the world that the buffers hold
+abbrev pub worldFrom : ℕ → ℕ → List ℕ → List ℕ → List ℕ → World
+worldFrom cap page state flash meta = record { state = stateFrom cap page state; flash = flash; meta = meta }
 
 unfoldable pub cFed : ℕ → ℕ → List ℕ → List ℕ → List ℕ → List ℕ → List ℕ → List ℕ → List ℕ → AfterFeed
 cFed cap page setup state bytes flash meta reply answer =
-    pick (eqb (length setup) setupSize)
-    (pick (holdsState cap page state)
-    (pick (ltb (length answer) answerSize)
-    (feedRefused (roomless cap page (setupFrom setup) (stateFrom cap page state) (length flash) (length meta)) state flash meta reply answer)
-    (feedCalled (fedOf cap page (setupFrom setup) (stateFrom cap page state) bytes flash meta reply) answer))
-    (feedRefused 11 state flash meta reply answer))
-    (feedRefused 10 state flash meta reply answer)
+    if not (eqb (length setup) setupSize) then feedRefused 10 state flash meta reply answer else
+    if not (holdsState cap page state) then feedRefused 11 state flash meta reply answer else
+    if ltb (length answer) answerSize then
+    feedRefused (roomless cap page (setupFrom setup) (stateFrom cap page state) (length flash) (length meta)) state flash meta reply answer else
+    feedCalled (fedOf cap page (setupFrom setup) (worldFrom cap page state flash meta) bytes reply) answer
 
 -- a start of the setup that the bytes hold
 unfoldable pub cStarted : ℕ → ℕ → ℕ → List ℕ → List ℕ → List ℕ → List ℕ → List ℕ → AfterStart
 cStarted cap page mode setup state flash meta answer =
-    pick (eqb (length setup) setupSize) (startIn cap page mode (setupFrom setup) state flash meta answer) (startRefused 10 state meta answer)
+    if not (eqb (length setup) setupSize) then startRefused 10 state meta answer else
+    startIn cap page mode (setupFrom setup) state flash meta answer

@@ -5,20 +5,22 @@ use crate::layout::wide;
 use crate::state::fetch;
 use crate::state::lay_numbers;
 use crate::state::numbers_from;
+use c_layout::GOT;
 use c_layout::lay_answer;
 use c_layout::numbers_of;
-use c_layout::refusal_number;
 use c_layout::unsaid;
 use device_in_place::byte_on;
 use device_in_place::feed_on;
 use device_state::Setup;
+use device_state::refusal::refusal_number;
 use device_state::refusal::refuses;
+use wire_frames::frame::FRAME;
 ghost use mathlib.Core.Path.{_≡_};
 ghost use Prim.Native.Nat.{_≤_};
 ghost use lib.ListN.{length};
 ghost use Rattle.device_feed.specs.Feed.{fedOf};
 ghost use Rattle.c_layout.specs.Layout.{setupFrom, holdsState, stateFrom};
-ghost use Rattle.tinyboot_c.specs.Calls.{roomless, afterFeed, feedCalled};
+ghost use Rattle.tinyboot_c.specs.Calls.{roomless, worldFrom, afterFeed, feedCalled};
 ghost use Rattle.tinyboot_c.specs.Inner.{ByteFed};
 ghost use mathlib.Core.Bool.{true};
 
@@ -27,10 +29,10 @@ pub(crate) fn unanswered(setup: Setup, state: &[u8], flash: usize, meta: usize) 
     requires { ⌜ length (now state) ≡ 136 ⌝ }
     ensures { λ r. ⌜ r ≡ roomless 52 64 setup (stateFrom 52 64 (now (state .entry))) flash meta ⌝ }
 {
-    let mut f = [0u8; 64];
+    let mut f = [0u8; FRAME];
     fetch(state, 0, &mut f);
     let n = numbers_from(state);
-    refusal_number(refuses(setup, &f, n.got, n.fill, n.next, n.closed, flash, meta, 0))
+    refusal_number(refuses(setup, &f, n, flash, meta, 0))
 }
 
 // A piece of one byte that is only stored, and whether it is: with most bytes there is nothing else to do.
@@ -57,17 +59,14 @@ fn fed_byte(
         erase,
         capacity,
         id_len,
-        n.got,
-        n.fill,
-        n.next,
-        n.closed,
+        n,
         state,
         bytes[0],
         flash,
         meta,
         room,
     ) {
-        state[132] = (n.got + 1) as u8;
+        state[GOT] = (n.got + 1) as u8;
         return true;
     }
     false
@@ -86,23 +85,13 @@ fn fed_piece(
     requires { ⌜ length (now state) ≡ 136 ⌝ }
     requires { ⌜ 16 ≤ length (now answer) ⌝ }
     ensures { λ r. ⌜ afterFeed r (now (state .exit)) (now (flash .exit)) (now (meta .exit)) (now (reply .exit)) (now (answer .exit)) ≡
-        feedCalled (fedOf 52 64 setup (stateFrom 52 64 (now (state .entry))) (now (bytes .entry)) (now (flash .entry)) (now (meta .entry)) (now (reply .entry))) (now (answer .entry)) ⌝ }
+        feedCalled (fedOf 52 64 setup (worldFrom 52 64 (now (state .entry)) (now (flash .entry)) (now (meta .entry))) (now (bytes .entry))
+        (now (reply .entry))) (now (answer .entry)) ⌝ }
 {
     let n = numbers_from(state);
-    let p = feed_on(
-        setup,
-        n.got,
-        n.fill,
-        n.next,
-        n.selected,
-        n.closed,
-        state,
-        bytes,
-        flash,
-        meta,
-        reply,
-    );
-    lay_numbers(state, p.got, p.fill, p.next, p.selected, p.closed);
+    let p = feed_on(setup, n, state, bytes, flash, meta, reply);
+    let left = p.numbers;
+    lay_numbers(state, left);
     let told = p.answer;
     lay_answer(answer, numbers_of(told), p.taken)
 }
@@ -120,7 +109,8 @@ pub(crate) fn fed(
     requires { ⌜ holdsState 52 64 (now state) ≡ true ⌝ }
     requires { ⌜ 16 ≤ length (now answer) ⌝ }
     ensures { λ r. ⌜ afterFeed r (now (state .exit)) (now (flash .exit)) (now (meta .exit)) (now (reply .exit)) (now (answer .exit)) ≡
-        feedCalled (fedOf 52 64 (setupFrom (now (setup .entry))) (stateFrom 52 64 (now (state .entry))) (now (bytes .entry)) (now (flash .entry)) (now (meta .entry)) (now (reply .entry))) (now (answer .entry)) ⌝ }
+        feedCalled (fedOf 52 64 (setupFrom (now (setup .entry))) (worldFrom 52 64 (now (state .entry)) (now (flash .entry)) (now (meta .entry)))
+        (now (bytes .entry)) (now (reply .entry))) (now (answer .entry)) ⌝ }
 {
     if fed_byte(setup, state, bytes, flash.len(), meta.len(), reply.len()) {
         return lay_answer(answer, unsaid(0), 1);

@@ -4,6 +4,8 @@ mod layout;
 mod state;
 
 use crate::layout::setup_from;
+use c_layout::ANSWER_SIZE;
+use c_layout::STATE_SIZE;
 use c_layout::holds_setup;
 use c_layout::holds_state;
 use c_layout::refuse;
@@ -21,7 +23,7 @@ ghost use Rattle.tinyboot_c.specs.Calls.{afterFeed, cFed, cStarted};
 pub extern "C" fn tinyboot_state_size() -> usize
     ensures { λ r. ⌜ r ≡ stateSize 52 64 ⌝ }
 {
-    136
+    STATE_SIZE
 }
 
 // The register `crc` after these bytes, for hosts that make frames.
@@ -52,13 +54,14 @@ pub extern "C" fn tinyboot_feed(
     answer: &mut [u8],
 ) -> u8
     ensures { λ r. ⌜ afterFeed r (now (state .exit)) (now (flash .exit)) (now (meta .exit)) (now (reply .exit)) (now (answer .exit)) ≡
-        cFed 52 64 (now (setup .entry)) (now (state .entry)) (now (bytes .entry)) (now (flash .entry)) (now (meta .entry)) (now (reply .entry)) (now (answer .entry)) ⌝ }
+        cFed 52 64 (now (setup .entry)) (now (state .entry)) (now (bytes .entry)) (now (flash .entry)) (now (meta .entry)) (now (reply .entry))
+        (now (answer .entry)) ⌝ }
 {
     if !holds_setup(setup) {
         return refuse(answer, 10);
     }
     if holds_state(state) {
-        if answer.len() < 16 {
+        if answer.len() < ANSWER_SIZE {
             let s = setup_from(setup);
             return feeding::unanswered(s, state, flash.len(), meta.len());
         }

@@ -2,31 +2,29 @@
 use crate::layout::four;
 use crate::layout::lay;
 use crate::layout::wide;
+use c_layout::CLOSED;
+use c_layout::FILL;
+use c_layout::GOT;
+use c_layout::NEXT;
+use c_layout::SELECTED;
 use c_layout::number_bytes;
+use device_state::Numbers;
+use wire_frames::frame::FRAME;
+use wire_frames::frame::FrameBytes;
 ghost use mathlib.Core.Path.{_≡_};
 ghost use Prim.Native.Nat.{_≤_, _+_};
 ghost use lib.ListN.{length};
 ghost use lib.Seq.{paste};
-ghost use Rattle.c_layout.specs.Layout.{part, numberBytes};
-ghost use Rattle.tinyboot_c.specs.Inner.{numbersFrom};
-
-// What a state has beside its arrays.
-pub struct Numbers {
-    pub got: usize,
-    pub fill: usize,
-    pub next: u32,
-    pub selected: bool,
-    pub closed: bool,
-}
+ghost use Rattle.c_layout.specs.Layout.{part, numberBytes, numbersFrom};
 
 // The 64 bytes from a place on.
-pub(crate) fn fetch(s: &[u8], at: usize, a: &mut [u8; 64])
+pub(crate) fn fetch(s: &[u8], at: usize, a: &mut FrameBytes)
     requires { ⌜ at + 64 ≤ length (now s) ⌝ }
     requires { ⌜ length (now a) ≡ 64 ⌝ }
     ensures { λ r. ⌜ now (a .exit) ≡ part at 64 (now (s .entry)) ⌝ }
 {
     let mut i: usize = 0;
-    while i < 64 {
+    while i < FRAME {
         a[i] = s[at + i];
         i += 1;
     }
@@ -34,29 +32,22 @@ pub(crate) fn fetch(s: &[u8], at: usize, a: &mut [u8; 64])
 
 pub(crate) fn numbers_from(s: &[u8]) -> Numbers
     requires { ⌜ length (now s) ≡ 136 ⌝ }
-    ensures { λ r. ⌜ r ≡ numbersFrom (now (s .entry)) ⌝ }
+    ensures { λ r. ⌜ r ≡ numbersFrom 52 64 (now (s .entry)) ⌝ }
 {
     Numbers {
-        got: wide(s[132]),
-        fill: wide(s[133]),
-        next: four(s, 128),
-        selected: s[134] == 1,
-        closed: s[135] == 1,
+        got: wide(s[GOT]),
+        fill: wide(s[FILL]),
+        next: four(s, NEXT),
+        selected: s[SELECTED] == 1,
+        closed: s[CLOSED] == 1,
     }
 }
 
 // What a state has beside its arrays, laid where it stands.
-pub(crate) fn lay_numbers(
-    s: &mut [u8],
-    got: usize,
-    fill: usize,
-    next: u32,
-    selected: bool,
-    closed: bool,
-)
+pub(crate) fn lay_numbers(s: &mut [u8], n: Numbers)
     requires { ⌜ length (now s) ≡ 136 ⌝ }
-    ensures { λ r. ⌜ now (s .exit) ≡ paste (now (s .entry)) 128 (numberBytes got fill next selected closed) 8 ⌝ }
+    ensures { λ r. ⌜ now (s .exit) ≡ paste (now (s .entry)) 128 (numberBytes n) 8 ⌝ }
 {
-    let n = number_bytes(got, fill, next, selected, closed);
-    lay(s, 128, &n);
+    let bytes = number_bytes(n);
+    lay(s, NEXT, &bytes);
 }

@@ -13,9 +13,9 @@ use Rattle.wire_frames.specs.declared.frame.End.{End}
 use Rattle.wire_frames.specs.declared.frame.End.the-variants.{Going, Over}
 use Rattle.laws.specs.Pick.{pick}
 use Rattle.wire_frames.specs.Fields.{lenOf}
-use Rattle.wire_frames.specs.Reading.{Hunt, Open, Sync, hunt, verdictOf, checked, kindStatus, judged, started, fromHunt, Outcome, Begun, Ended, readFrame}
+use Rattle.wire_frames.specs.Reading.{Hunt, Open, Sync, hunt, verdictOf, checked, judged, started, fromHunt, Outcome, Begun, Ended, readFrame}
 use Rattle.wire_frames.proofs.Cut.{cut-begun, cut-ended, started-begun}
-use Rattle.wire_frames.specs.Stored.{Said, quiet, ended, refused, Read, begun, store, outOf, ready, goes, wellOf, readOf, Well, After}
+use Rattle.wire_frames.specs.Stored.{Said, quiet, ended, noBeginning, Read, begun, store, outOf, ready, goes, wellOf, readOf, Well, After}
 use Rattle.wire_frames.proofs.Reading as reading
 use Rattle.laws.proofs.Lists.{over-take}
 use Rattle.wire_frames.proofs.Storing.{store-short, forget, Held, held}
@@ -137,8 +137,8 @@ module _ (cap : ℕ) (device : Bool) (f : List ℕ) (g : ℕ) (w : Well cap devi
           let n : length (l ++ m) - length r ≡ length l + (length m - length r) = rw length-append (omega arith) in
           simp n
 
-ended-not : (n : ℕ) → ended n ≡ quiet → ⊥
-ended-not n e = let z : _≡_ {A = ℕ} 1 0 = ap (λ (s : Said). s .number) e in omega arith
+ended-not : (k : Kind) → ended k ≡ quiet → ⊥
+ended-not k e = let z : _≡_ {A = ℕ} 0 1 = cc in omega arith
 
 module _ (cap : ℕ) (device : Bool) (f : List ℕ) (g : ℕ) (whole : length f ≡ 12 + cap) (l m : List ℕ) where
   -- the call after one that left r
@@ -181,8 +181,8 @@ module _ (cap : ℕ) (device : Bool) (f : List ℕ) (g : ℕ) (whole : length f 
           simp (of-well cap device f' (length q) (a .0), sym (a .0 .synced)) in
           c ∙ (rw (b .same) at (a .1 m (length (l ++ m)))) ∙ shifted cap device f' (length q) (a .0) l m ∙
           sym (ap (later (length l)) (ap (λ (r : Read). next r m) d ∙ x))
-      on (Ended k q r) t e = absurd (ended-not (kindStatus k) (rw (t, e) at h))
+      on (Ended k q r) t e = absurd (ended-not k (rw (t, e) at h))
 
       go : (t : Bool) → wellOf cap device f g ≡ t → readOf cap device f g (l ++ m) ≡ later (length l) (next (readOf cap device f g l) m)
       go true t = on (readFrame cap device (begun cap f g ++ l)) t refl
-      go false t = let x : refused ≡ quiet = rw t at h in let z : _≡_ {A = ℕ} 11 0 = ap (λ (s : Said). s .number) x in absurd (omega arith)
+      go false t = let x : noBeginning ≡ quiet = rw t at h in let z : _≡_ {A = ℕ} 0 1 = cc in absurd (omega arith)

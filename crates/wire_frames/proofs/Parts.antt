@@ -8,7 +8,7 @@ use lib.ListN.{length}
 use lib.Dec.{eqb}
 use Rattle.laws.proofs.Bools.{and-both}
 use Rattle.wire_frames.specs.Reading.{readFrame}
-use Rattle.wire_frames.specs.Stored.{begun, ready, wellOf, Read, refused, outOf, readOf, partOf}
+use Rattle.wire_frames.specs.Stored.{begun, ready, wellOf, Read, noBeginning, outOf, readOf, partOf}
 use Rattle.wire_frames.proofs.Start.{Started, start-of}
 
 module _ (cap : ℕ) (device : Bool) (f : List ℕ) (g : ℕ) where
@@ -29,12 +29,12 @@ module _ (cap : ℕ) (device : Bool) (f : List ℕ) (g : ℕ) where
       simp (b .0, b .1)
 
   pub part-refused : whole && wellOf cap device f g ≡ false → (l : List ℕ) →
-      record { bytes = f; got = g; taken = 0; said = refused } ≡ partOf cap device f g l
+      record { bytes = f; got = g; taken = 0; said = noBeginning } ≡ partOf cap device f g l
   unfolding partOf readOf
   part-refused e l = go whole (wellOf cap device f g) refl refl e
     where
       go : (t w : Bool) → whole ≡ t → wellOf cap device f g ≡ w → t && w ≡ false →
-          record { bytes = f; got = g; taken = 0; said = refused } ≡ partOf cap device f g l
+          record { bytes = f; got = g; taken = 0; said = noBeginning } ≡ partOf cap device f g l
       go true true a b k = cc
       go true false a b k = simp (a, b)
       go false w a b k = simp a

@@ -7,6 +7,7 @@ use lib.ListN.{replicate}
 use mathlib.Core.Bool.{Bool, true, false}
 use Rattle.laws.specs.Fold.{fold}
 use Rattle.wire_numbers.specs.Crc.{entered, bits, bitsOf, crcFrom}
+use Rattle.wire_frames.specs.declared.frame.Kind.the-variants.{Unsupported, PayloadOverflow, Overheard, CrcMismatch, Good}
 use Rattle.wire_frames.specs.Reading.{hunt, overhears, verdictOf, checked, started}
 use Rattle.wire_frames.specs.Stored.{newFrame, begun, store, quiet, ended, Said, Read, wellOf, readOf}
 
@@ -25,16 +26,16 @@ held (c ∷ l) = ((call c .taken ≡ c .taken) × (call c .said ≡ c .said)) ×
 
 abbrev cases : List Case
 cases =
-    record { device = true; bytes = 0 ∷ 0xaa ∷ 0xaa ∷ 0x55 ∷ 0 ∷ 0 ∷ 0 ∷ 0 ∷ 0 ∷ 0 ∷ 2 ∷ 0 ∷ 7 ∷ 9 ∷ 0x8a ∷ 0x20 ∷ 1 ∷ 2 ∷ []; taken = 16; said = ended 1 } ∷
-    record { device = true; bytes = 0xaa ∷ 0x55 ∷ 0 ∷ 0 ∷ 0 ∷ 0 ∷ 0 ∷ 0 ∷ 2 ∷ 0 ∷ 7 ∷ 9 ∷ 0x8a ∷ 0x21 ∷ []; taken = 14; said = ended 3 } ∷
-    record { device = true; bytes = 0xaa ∷ 0x55 ∷ 0 ∷ 1 ∷ 0 ∷ 0 ∷ 0 ∷ 0 ∷ 2 ∷ 0 ∷ 7 ∷ 9 ∷ 0xa9 ∷ 0xca ∷ []; taken = 14; said = ended 0 } ∷
-    record { device = false; bytes = 0xaa ∷ 0x55 ∷ 0 ∷ 1 ∷ 0 ∷ 0 ∷ 0 ∷ 0 ∷ 2 ∷ 0 ∷ 7 ∷ 9 ∷ 0xa9 ∷ 0xcb ∷ []; taken = 14; said = ended 1 } ∷
-    record { device = false; bytes = 0xaa ∷ 0x55 ∷ 0 ∷ 1 ∷ 0 ∷ 0 ∷ 0 ∷ 0 ∷ 2 ∷ 0 ∷ 7 ∷ 9 ∷ 0xa9 ∷ 0xca ∷ []; taken = 14; said = ended 3 } ∷
-    record { device = true; bytes = 0xaa ∷ 0x55 ∷ 2 ∷ 0 ∷ 0 ∷ 0 ∷ 0 ∷ 0 ∷ 0x35 ∷ 0 ∷ []; taken = 10; said = ended 6 } ∷
-    record { device = true; bytes = 0xaa ∷ 0x55 ∷ 2 ∷ 1 ∷ 0 ∷ 0 ∷ 0 ∷ 0 ∷ 0x35 ∷ 0 ∷ []; taken = 10; said = ended 0 } ∷
-    record { device = false; bytes = 0xaa ∷ 0x55 ∷ 2 ∷ 1 ∷ 0 ∷ 0 ∷ 0 ∷ 0 ∷ 0x35 ∷ 0 ∷ []; taken = 10; said = ended 6 } ∷
-    record { device = true; bytes = 0xaa ∷ 0x55 ∷ 6 ∷ 1 ∷ 0 ∷ 0 ∷ 0 ∷ 0 ∷ 0 ∷ 0 ∷ []; taken = 10; said = ended 5 } ∷
-    record { device = true; bytes = 0xaa ∷ 0x55 ∷ 2 ∷ 0 ∷ 0x40 ∷ 0 ∷ 0 ∷ 0 ∷ 0x34 ∷ 0 ∷ (replicate {A = ℕ} 52 0 ++ (0xbf ∷ 0xc6 ∷ [])); taken = 64; said = ended 1 } ∷
+    record { device = true; bytes = 0 ∷ 0xaa ∷ 0xaa ∷ 0x55 ∷ 0 ∷ 0 ∷ 0 ∷ 0 ∷ 0 ∷ 0 ∷ 2 ∷ 0 ∷ 7 ∷ 9 ∷ 0x8a ∷ 0x20 ∷ 1 ∷ 2 ∷ []; taken = 16; said = ended Good } ∷
+    record { device = true; bytes = 0xaa ∷ 0x55 ∷ 0 ∷ 0 ∷ 0 ∷ 0 ∷ 0 ∷ 0 ∷ 2 ∷ 0 ∷ 7 ∷ 9 ∷ 0x8a ∷ 0x21 ∷ []; taken = 14; said = ended CrcMismatch } ∷
+    record { device = true; bytes = 0xaa ∷ 0x55 ∷ 0 ∷ 1 ∷ 0 ∷ 0 ∷ 0 ∷ 0 ∷ 2 ∷ 0 ∷ 7 ∷ 9 ∷ 0xa9 ∷ 0xca ∷ []; taken = 14; said = ended Overheard } ∷
+    record { device = false; bytes = 0xaa ∷ 0x55 ∷ 0 ∷ 1 ∷ 0 ∷ 0 ∷ 0 ∷ 0 ∷ 2 ∷ 0 ∷ 7 ∷ 9 ∷ 0xa9 ∷ 0xcb ∷ []; taken = 14; said = ended Good } ∷
+    record { device = false; bytes = 0xaa ∷ 0x55 ∷ 0 ∷ 1 ∷ 0 ∷ 0 ∷ 0 ∷ 0 ∷ 2 ∷ 0 ∷ 7 ∷ 9 ∷ 0xa9 ∷ 0xca ∷ []; taken = 14; said = ended CrcMismatch } ∷
+    record { device = true; bytes = 0xaa ∷ 0x55 ∷ 2 ∷ 0 ∷ 0 ∷ 0 ∷ 0 ∷ 0 ∷ 0x35 ∷ 0 ∷ []; taken = 10; said = ended PayloadOverflow } ∷
+    record { device = true; bytes = 0xaa ∷ 0x55 ∷ 2 ∷ 1 ∷ 0 ∷ 0 ∷ 0 ∷ 0 ∷ 0x35 ∷ 0 ∷ []; taken = 10; said = ended Overheard } ∷
+    record { device = false; bytes = 0xaa ∷ 0x55 ∷ 2 ∷ 1 ∷ 0 ∷ 0 ∷ 0 ∷ 0 ∷ 0x35 ∷ 0 ∷ []; taken = 10; said = ended PayloadOverflow } ∷
+    record { device = true; bytes = 0xaa ∷ 0x55 ∷ 6 ∷ 1 ∷ 0 ∷ 0 ∷ 0 ∷ 0 ∷ 0 ∷ 0 ∷ []; taken = 10; said = ended Unsupported } ∷
+    record { device = true; bytes = 0xaa ∷ 0x55 ∷ 2 ∷ 0 ∷ 0x40 ∷ 0 ∷ 0 ∷ 0 ∷ 0x34 ∷ 0 ∷ (replicate {A = ℕ} 52 0 ++ (0xbf ∷ 0xc6 ∷ [])); taken = 64; said = ended Good } ∷
     record { device = true; bytes = 0xaa ∷ []; taken = 1; said = quiet } ∷
     []
 

@@ -2,10 +2,10 @@
 -- device, which overhears a frame whose status is not Request, and false for the desk, which reads every status.
 use Prim.Native.Nat.{ℕ, _+_}
 use mathlib.Core.List.{List, [], _∷_}
-use mathlib.Core.Bool.{Bool, true, false, not, _||_}
+use mathlib.Core.Bool.{Bool, true, false, not, _&&_, _||_}
 use lib.ListN.{length, getD, take, drop}
 use lib.Dec.{ltb, eqb}
-use Rattle.laws.specs.Pick.{pick}
+use Rattle.laws.specs.Pick.{pick, if_then_else_}
 use Rattle.laws.specs.Low.{lowFirst}
 use Rattle.wire_numbers.specs.Crc.{crcOf}
 use Rattle.wire_frames.specs.Fields.{cmdOf, statusOf, lenOf}
@@ -27,14 +27,14 @@ hunt false (b ∷ l) = hunt (eqb b 0xAA) l
 
 -- whether a frame of this status is overheard: a device takes what is no request for another's reply (01, Frame bytes, steps 2 and 3)
 unfoldable pub overhears : Bool → ℕ → Bool
-overhears device status = pick device (not (eqb status 0)) false
+overhears device status = device && not (eqb status 0)
 
 -- what a header of this command, status and length says (01, Frame bytes, steps 1 and 2)
 abbrev pub headerOf : ℕ → Bool → ℕ → ℕ → ℕ → End
 headerOf cap device cmd status len =
-    pick (ltb 5 cmd || ltb 7 status) (Over Unsupported)
-    (pick (ltb cap len) (Over (pick (overhears device status) Overheard PayloadOverflow))
-    Going)
+    if ltb 5 cmd || ltb 7 status then Over Unsupported else
+    if ltb cap len then Over (if overhears device status then Overheard else PayloadOverflow) else
+    Going
 
 -- the same of a header's bytes, ten or more
 unfoldable pub verdictOf : ℕ → Bool → List ℕ → End
@@ -43,8 +43,9 @@ verdictOf cap device f = headerOf cap device (cmdOf f) (statusOf f) (lenOf f)
 -- what a whole frame says; its CRC covers all that stands before it (01, Frame bytes, steps 3 and 4)
 unfoldable pub checked : Bool → List ℕ → Kind
 checked device f =
-    pick (overhears device (statusOf f)) Overheard
-    (pick (eqb (crcOf (take (10 + lenOf f) f)) (lowFirst (getD f (10 + lenOf f) 0 ∷ getD f (11 + lenOf f) 0 ∷ []))) Good CrcMismatch)
+    if overhears device (statusOf f) then Overheard else
+    if eqb (crcOf (take (10 + lenOf f) f)) (lowFirst (getD f (10 + lenOf f) 0 ∷ getD f (11 + lenOf f) 0 ∷ [])) then Good else
+    CrcMismatch
 
 -- the status that each kind stands for; an overheard frame gets no reply, and the Rust's reader answers Request for it
 abbrev pub kindStatus : Kind → ℕ
@@ -63,12 +64,12 @@ pub data Outcome : Type 0 where
 abbrev pub judged : Bool → End → List ℕ → Outcome
 judged device (Over k) f = Ended k (take 10 f) (drop 10 f)
 judged device Going f =
-    pick (ltb (length f) (12 + lenOf f)) (Begun f)
-    (Ended (checked device f) (take (12 + lenOf f) f) (drop (12 + lenOf f) f))
+    if ltb (length f) (12 + lenOf f) then Begun f else
+    Ended (checked device f) (take (12 + lenOf f) f) (drop (12 + lenOf f) f)
 
 -- what the bytes from an AA 55 on say: nothing yet short of a header, AA 55 and eight bytes (01, Frame bytes)
 unfoldable pub started : ℕ → Bool → List ℕ → Outcome
-started cap device f = pick (ltb (length f) 10) (Begun f) (judged device (verdictOf cap device f) f)
+started cap device f = if ltb (length f) 10 then Begun f else judged device (verdictOf cap device f) f
 
 abbrev pub fromHunt : ℕ → Bool → Hunt → Outcome
 fromHunt cap device (Open p) = Begun (pick p (0xAA ∷ []) [])

@@ -14,7 +14,7 @@ use Rattle.wire_frames.specs.declared.frame.End.the-variants.{Going, Ove
 use Rattle.wire_frames.specs.declared.frame.Stop.{Stop}
 use Rattle.wire_frames.specs.declared.frame.Frame.{Frame}
 use Rattle.wire_frames.specs.Fields.{lenOf}
-use Rattle.wire_frames.specs.Reading.{verdictOf, kindStatus, Outcome, Begun, Ended, readFrame}
+use Rattle.wire_frames.specs.Reading.{verdictOf, Outcome, Begun, Ended, readFrame}
 
 -- a frame with nothing in it: AA 55, and zero elsewhere (01, Frame bytes, the data area of a new state)
 abbrev pub newFrame : ℕ → List ℕ
@@ -41,30 +41,22 @@ store cap f q =
 abbrev pub ready : List ℕ → List ℕ
 ready f = over (0xAA ∷ 0x55 ∷ []) f
 
--- what a call says: 01's number of it, and the status of the frame that ended
-pub record Said : Type 0 where
-  pub number : ℕ
-  pub status : ℕ
-
--- 01, What a call says: 0 where no frame has ended, 1 where one has (the reader replies to none), 11 for a frame that is no true beginning
-abbrev pub quiet : Said
-quiet = record { number = 0; status = 0 }
-
-abbrev pub ended : ℕ → Said
-ended status = record { number = 1; status = status }
-
-abbrev pub refused : Said
-refused = record { number = 11; status = 0 }
+-- what a call says (01, What a call says): no frame has ended, 0; one has, in this way, 1 (the reader replies to none); or the frame handed in is no true
+-- beginning, 11
+pub data Said : Type 0 where
+  quiet : Said
+  ended : Kind → Said
+  noBeginning : Said
 
 -- each case of the code's answer
 abbrev pub saidOf : Stop → Said
-saidOf Stop.Refused = refused
+saidOf Stop.Refused = noBeginning
 saidOf Stop.Going = quiet
-saidOf Stop.Unsupported = ended 5
-saidOf Stop.PayloadOverflow = ended 6
-saidOf Stop.Overheard = ended 0
-saidOf Stop.CrcMismatch = ended 3
-saidOf Stop.Good = ended 1
+saidOf Stop.Unsupported = ended Kind.Unsupported
+saidOf Stop.PayloadOverflow = ended Kind.PayloadOverflow
+saidOf Stop.Overheard = ended Kind.Overheard
+saidOf Stop.CrcMismatch = ended Kind.CrcMismatch
+saidOf Stop.Good = ended Kind.Good
 
 -- all that a call leaves: the frame's bytes, how many have begun, how many of the piece were taken, what it says
 pub record Read : Type 0 where
@@ -79,7 +71,7 @@ seen f g n s = record { bytes = f; got = g; taken = n; said = saidOf s }
 -- what a reading of the bytes begun and n more gives, over the frame f
 abbrev pub outOf : ℕ → List ℕ → ℕ → Outcome → Read
 outOf cap f n (Begun q) = record { bytes = store cap f q; got = length q; taken = n; said = quiet }
-outOf cap f n (Ended k q r) = record { bytes = store cap f q; got = 0; taken = n - length r; said = ended (kindStatus k) }
+outOf cap f n (Ended k q r) = record { bytes = store cap f q; got = 0; taken = n - length r; said = ended k }
 
 abbrev pub goes : End → Bool
 goes Going = true
@@ -99,13 +91,13 @@ unfoldable pub readOf : ℕ → Bool → List ℕ → ℕ → List ℕ → Read
 readOf cap device f g l =
     pick (wellOf cap device f g)
     (outOf cap (ready f) (length l) (readFrame cap device (begun cap f g ++ l)))
-    (record { bytes = f; got = g; taken = 0; said = refused })
+    (record { bytes = f; got = g; taken = 0; said = noBeginning })
 
 -- the same of any list: one that is not as long as a frame is none, and is refused
 unfoldable pub partOf : ℕ → Bool → List ℕ → ℕ → List ℕ → Read
 partOf cap device f g l =
     pick (eqb (length f) (12 + cap)) (readOf cap device f g l)
-    (record { bytes = f; got = g; taken = 0; said = refused })
+    (record { bytes = f; got = g; taken = 0; said = noBeginning })
 
 -- below here: what the functions under the public call promise each other
 
@@ -131,7 +123,7 @@ After cap device f g x f' g' Going =
     ((l : List ℕ) (n : ℕ) → outOf cap f n (readFrame cap device (begun cap f g ++ (x ++ l))) ≡ outOf cap f' n (readFrame cap device (begun cap f' g' ++ l)))
 After cap device f g x f' g' (Over k) =
     (l : List ℕ) (n : ℕ) → outOf cap f n (readFrame cap device (begun cap f g ++ (x ++ l))) ≡
-    record { bytes = f'; got = 0; taken = n - length l; said = ended (kindStatus k) }
+    record { bytes = f'; got = 0; taken = n - length l; said = ended k }
 
 -- a turn took m bytes of the list l, from i on
 pub record Turned (cap : ℕ) (device : Bool) (f : List ℕ) (g : ℕ) (l : List ℕ) (i : ℕ) (f' : List ℕ) (g' m : ℕ) (end : End) : Type 0 where

@@ -12,8 +12,13 @@ ghost use Rattle.wire_frames.specs.Info.{infoBytes};
 ghost use Rattle.wire_frames.specs.Reading.{overhears, headerOf};
 ghost use Rattle.wire_frames.specs.Stored.{newFrame, framed, goes, wellOf};
 
-// The largest payload that a request may carry. With the 12 bytes of framing a full frame is 64 bytes.
+// The largest payload that a request may carry.
 pub const DEFAULT_PAYLOAD: usize = 52;
+
+// A full frame: 12 bytes of framing, and a full payload.
+pub const FRAME: usize = 12 + DEFAULT_PAYLOAD;
+
+pub type FrameBytes = [u8; FRAME];
 
 // What Info replies.
 pub struct InfoData {
@@ -42,7 +47,7 @@ impl InfoData {
 // 64 bytes at the offsets of 01 (AA 55, header 2 to 9, data 10 to 61, the received CRC apart at 62 and 63), and how many bytes of a frame have
 // begun: 0 none, 1 an AA, 10 a header. The data area, 10 to 61, outlives the frame.
 pub struct Frame {
-    pub bytes: [u8; 64],
+    pub bytes: FrameBytes,
     pub got: usize,
 }
 
@@ -51,7 +56,7 @@ impl Frame {
     pub fn new() -> Frame
         ensures { λ r. ⌜ r ≡ framed (newFrame 52) 0 ⌝ }
     {
-        let mut bytes = [0u8; 64];
+        let mut bytes = [0u8; FRAME];
         bytes[0] = Sync::VALID.0;
         bytes[1] = Sync::VALID.1;
         Frame {
@@ -169,7 +174,7 @@ fn well(f: &[u8], got: usize, device: bool) -> bool
 }
 
 // Whether the first `got` bytes of a lent frame are a true beginning of one.
-pub fn is_beginning(f: &[u8; 64], got: usize, device: bool) -> bool
+pub fn is_beginning(f: &FrameBytes, got: usize, device: bool) -> bool
     ensures { λ r. ⌜ r ≡ wellOf 52 device (now (f .entry)) got ⌝ }
 {
     well(f, got, device)
@@ -179,7 +184,7 @@ pub fn is_beginning(f: &[u8; 64], got: usize, device: bool) -> bool
 pub fn begins(f: &[u8], got: usize, device: bool) -> bool
     ensures { λ r. ⌜ r ≡ (eqb (length (now (f .entry))) 64 && wellOf 52 device (now (f .entry)) got) ⌝ }
 {
-    if f.len() == 64 {
+    if f.len() == FRAME {
         return well(f, got, device);
     }
     false

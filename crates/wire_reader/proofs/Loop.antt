@@ -8,7 +8,7 @@ use lib.ListN.{length, getD, take, drop, length-drop, drop-of-length-le, take-ap
 use lib.Seq.{drop-drop}
 use Rattle.wire_frames.specs.declared.frame.Kind.{Kind}
 use Rattle.wire_frames.specs.declared.frame.End.the-variants.{Going, Over}
-use Rattle.wire_frames.specs.Reading.{kindStatus, readFrame}
+use Rattle.wire_frames.specs.Reading.{readFrame}
 use Rattle.wire_frames.specs.Stored.{Read, begun, outOf, quiet, ended, Well, Turned}
 use Rattle.wire_frames.proofs.Steps.{stays}
 
@@ -34,7 +34,7 @@ module _ (cap : ℕ) (device : Bool) (l : List ℕ) (r : Read) (f : List ℕ) (g
         }
 
     -- it has ended
-    pub over-at : (k : Kind) → Turned cap device f g l i f' g' m (Over k) → record { bytes = f'; got = 0; taken = i + m; said = ended (kindStatus k) } ≡ r
+    pub over-at : (k : Kind) → Turned cap device f g l i f' g' m (Over k) → record { bytes = f'; got = 0; taken = i + m; said = ended k } ≡ r
     over-at k t =
         let h : i + m ≤ length l = t .within in
         let n : length l - length (drop (i + m) l) ≡ i + m = rw (length-drop (i + m) l) (omega arith) in

@@ -1,9 +1,12 @@
-// The reader: takes the bytes of the wire into a frame, and stops where the frame ends. Translated from tinyboot, lib/protocol/src/frame.rs (MIT OR Apache-2.0);
+// The reader: takes the bytes of the wire into a frame, and stops where the frame ends. Translated from tinyboot, lib/protocol/src/frame.rs (MIT OR
+// Apache-2.0);
 // changed: the blocking reader is a feed, which is handed the bytes as they come and goes on where it stopped.
 
 use wire_frames::frame;
 use wire_frames::frame::End;
+use wire_frames::frame::FRAME;
 use wire_frames::frame::Frame;
+use wire_frames::frame::FrameBytes;
 use wire_frames::frame::Kind;
 use wire_frames::frame::Passed;
 use wire_frames::frame::Stop;
@@ -21,7 +24,7 @@ ghost use lib.Seq.{paste};
 ghost use Rattle.laws.specs.Pick.{pick};
 ghost use Rattle.wire_numbers.specs.Crc.{crcOf};
 ghost use Rattle.wire_frames.specs.Fields.{lenOf};
-ghost use Rattle.wire_frames.specs.Reading.{verdictOf, checked, kindStatus, readFrame};
+ghost use Rattle.wire_frames.specs.Reading.{verdictOf, checked, readFrame};
 ghost use Rattle.wire_frames.specs.Stored.{begun, Well, wantedOf, After, Turned, outOf, ended, saidOf, seen, readOf, partOf};
 
 pub struct Taken {
@@ -120,7 +123,7 @@ fn fill(f: &mut [u8], got: usize, bytes: &[u8], at: usize, m: usize)
     requires { ⌜ (length (now f) ≡ 64) × (got + m ≤ 64) × (at + m ≤ length (now bytes)) ⌝ }
     ensures { λ r. ⌜ now (f .exit) ≡ paste (now (f .entry)) got (drop at (now (bytes .entry))) m ⌝ }
 {
-    let mut a = [0u8; 64];
+    let mut a = [0u8; FRAME];
     copy(&mut a, 0, bytes, at, m);
     copy(f, got, &a, 0, m);
 }
@@ -213,7 +216,7 @@ fn take_turn(f: &mut [u8], got: usize, device: bool, bytes: &[u8], at: usize) ->
 }
 
 fn told(k: Kind) -> Stop
-    ensures { λ r. ⌜ saidOf r ≡ ended (kindStatus k) ⌝ }
+    ensures { λ r. ⌜ saidOf r ≡ ended k ⌝ }
 {
     match k {
         Kind::Unsupported => Stop::Unsupported,
@@ -226,7 +229,8 @@ fn told(k: Kind) -> Stop
 
 fn pass(f: &mut [u8], start: usize, device: bool, bytes: &[u8]) -> Passed
     requires { ⌜ Well 52 device (now f) start ⌝ }
-    ensures { λ r. ⌜ seen (now (f .exit)) (r .got) (r .taken) (r .stop) ≡ outOf 52 (now (f .entry)) (length (now (bytes .entry))) (readFrame 52 device (begun 52 (now (f .entry)) start ++ now (bytes .entry))) ⌝ }
+    ensures { λ r. ⌜ seen (now (f .exit)) (r .got) (r .taken) (r .stop) ≡
+        outOf 52 (now (f .entry)) (length (now (bytes .entry))) (readFrame 52 device (begun 52 (now (f .entry)) start ++ now (bytes .entry))) ⌝ }
 {
     let mut got = start;
     let mut i: usize = 0;
@@ -269,7 +273,7 @@ pub fn read_part(f: &mut [u8], got: usize, device: bool, bytes: &[u8]) -> Passed
 }
 
 // The same of a frame's array.
-pub fn read_in(f: &mut [u8; 64], got: usize, device: bool, bytes: &[u8]) -> Passed
+pub fn read_in(f: &mut FrameBytes, got: usize, device: bool, bytes: &[u8]) -> Passed
     ensures { λ r. ⌜ seen (now (f .exit)) (r .got) (r .taken) (r .stop) ≡ readOf 52 device (now (f .entry)) got (now (bytes .entry)) ⌝ }
 {
     read_part(f, got, device, bytes)

@@ -1,6 +1,7 @@
 // Translated from tinyboot, lib/protocol/src/frame.rs (MIT OR Apache-2.0): its `send`; changed: the whole is written into a lent room.
 
 use wire_frames::frame::DEFAULT_PAYLOAD;
+use wire_frames::frame::FrameBytes;
 use wire_frames::sync::Sync;
 use wire_numbers::crc;
 use wire_numbers::le;
@@ -32,7 +33,7 @@ fn seal(f: &mut [u8], n: usize)
 }
 
 // Sends a frame into a lent room: how many bytes. A length above the capacity, or a room too small, sends nothing and changes nothing.
-pub fn send(f: &mut [u8; 64], room: &mut [u8]) -> usize
+pub fn send(f: &mut FrameBytes, room: &mut [u8]) -> usize
     ensures { λ r. ⌜ sent r (now (f .exit)) (now (room .exit)) ≡ sendOf 52 (now (f .entry)) (now (room .entry)) ⌝ }
 {
     let n = le::read16(f[8], f[9]) as usize;

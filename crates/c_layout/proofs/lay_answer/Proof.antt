@@ -16,11 +16,15 @@ returns c = let a = c .before .before .args in (refl, answer-short (toldBy (a .s
 
 returns-2 : tie.Need-returns-2
 returns-2 c =
-    let a = c .before .before .before .before .before .before .before .before .args in
-    let x : List ℕ = c .before .before .before .before .before .answer-bytes .result in (
+    let at-copy = c .before .before in
+    let at-answer-bytes = at-copy .before .before .before in
+    let at-if1 = at-answer-bytes .before in
+    let a = at-if1 .before .before .args in
+    let x : List ℕ = at-answer-bytes .answer-bytes .result in (
       refl,
-      c .before .before .copy .ensures .1 ∙ ap (λ (y : List ℕ). y ++ drop (length x) (a .a .now)) (take-all (length x) x (omega arith)) ∙
-          ap (λ (v : List ℕ). over v (a .a .now)) (c .before .before .before .before .before .answer-bytes .ensures) ∙ answer-laid (toldBy (a .said)) (a .taken) (a .a .now) (c .before .before .before .before .before .before .if1 .left),
+      at-copy .copy .ensures .1 ∙ ap (λ (y : List ℕ). y ++ drop (length x) (a .a .now)) (take-all (length x) x (omega arith)) ∙
+          ap (λ (v : List ℕ). over v (a .a .now)) (at-answer-bytes .answer-bytes .ensures) ∙
+          answer-laid (toldBy (a .said)) (a .taken) (a .a .now) (at-if1 .if1 .left),
     )
 
 pub lay-answer-spec : {M : Type 1} → statement M

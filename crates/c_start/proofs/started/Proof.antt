@@ -34,7 +34,8 @@ returns-2 c =
     let a = at-entry .args in
     let e = c .before .before .lay-start2 .ensures in
     let x = startedTo (at-start .start .result) (at-start .start .last .1 .1 .1 .0) in
-    start-kept x _ (rw (at-mode-of .mode-of .ensures) at (at-start .start .ensures)) (a .state .now) (a .answer .now) _ (e .0) _ (e .1) (sym (at-is-none .is-none .ensures) ∙ at-if1 .if1 .left)
+    let k = rw (at-mode-of .mode-of .ensures) at (at-start .start .ensures) in
+    start-kept x _ k (a .state .now) (a .answer .now) _ (e .0) _ (e .1) (sym (at-is-none .is-none .ensures) ∙ at-if1 .if1 .left)
 
 pub started-spec : {M : Type 1} → statement M
 started-spec =

@@ -12,7 +12,8 @@ returns c =
     let s = c .before .before .before in
     let b = s .before .before in
     let a = b .before .before .before .before .before .args in
-    let l = ready-idle (a .meta .now) _ (b .before .before .boot-state .ensures) (ap stateByte (b .enum-told .given .1)) _ _ (c .done .ensures) (ap (λ (x : Stepped). x .answer) (s .advance .ensures)) in
+    let l = ready-idle (a .meta .now) _ (b .before .before .boot-state .ensures) (ap stateByte (b .enum-told .given .1)) _ _ (c .done .ensures)
+    (ap (λ (x : Stepped). x .answer) (s .advance .ensures)) in
     (l .0, ap (λ (x : Stepped). x .meta) (s .advance .ensures) ∙ l .1)
 
 returns-2 : tie.Need-returns-2

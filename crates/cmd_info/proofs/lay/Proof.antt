@@ -32,29 +32,11 @@ laid f g new i l n h e =
 loop-holds : tie.Need-loop-holds Inv-loop μ-loop
 loop-holds c = (search needs, search needs, refl)
 
-shared-slice-read-f : tie.Need-shared-slice-read-f Inv-loop μ-loop
-shared-slice-read-f c = search needs
-
-add-f : tie.Need-add-f Inv-loop μ-loop
-add-f c = search needs
-
-slice-write-f : tie.Need-slice-write-f Inv-loop μ-loop
-slice-write-f c = search needs
-
-add-i : tie.Need-add-i Inv-loop μ-loop
-add-i c = search needs
-
-loop-less : tie.Need-loop-less Inv-loop μ-loop
-loop-less c = search needs
-
 loop-again : tie.Need-loop-again Inv-loop μ-loop
 loop-again c =
     let l = c .before .before .loop in
     let a = c .before .before .before .args in
     (omega arith, simp length-set (l .inv .1), more (l .f) (a .new .now) (l .i) (omega arith) ∙ l .inv .2)
-
-same-length : tie.Need-same-length Inv-loop μ-loop
-same-length c = search needs
 
 returns : tie.Need-returns Inv-loop μ-loop
 returns c =
@@ -68,11 +50,11 @@ lay-spec =
     Inv-loop
     μ-loop
     loop-holds
-    shared-slice-read-f
-    add-f
-    slice-write-f
-    add-i
-    loop-less
+    (λ c. search needs)
+    (λ c. search needs)
+    (λ c. search needs)
+    (λ c. search needs)
+    (λ c. search needs)
     loop-again
-    same-length
+    (λ c. search needs)
     returns)

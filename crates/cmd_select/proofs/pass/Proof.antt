@@ -5,7 +5,7 @@ use mathlib.Core.Path.{_≡_, _∙_}
 use lib.Dec.{eqb}
 use lib.ListN.{length}
 use lib.Seq.{paste, paste-zero, paste-suc}
-use Rattle.cmd_select.specs.Select.{countOf, prefixOf, agree}
+use Rattle.cmd_select.specs.Select.{bitCountOf, prefixOf, agree}
 use Rattle.cmd_select.proofs.PrefixBytes.{past, turn, first, last}
 use native.Mathlib.Omega.{arith}
 use borrow.Author.Needs.{needs}
@@ -14,58 +14,19 @@ use Rattle.cmd_select.proofs.pass.Tie as tie
 
 abbrev Inv-loop : tie.InvT-loop
 Inv-loop uid f₀ rem₀ diff₀ i₀ f rem diff i =
-    (i ≤ length uid) × (rem ≡ countOf f₀ - 8 * i) × (eqb diff 0 ≡ agree (countOf f₀ - rem) uid (prefixOf f₀)) × (f ≡ paste f₀ 10 uid i)
+    (i ≤ length uid) × (rem ≡ bitCountOf f₀ - 8 * i) × (eqb diff 0 ≡ agree (bitCountOf f₀ - rem) uid (prefixOf f₀)) × (f ≡ paste f₀ 10 uid i)
 
 abbrev μ-loop : tie.MeasureT-loop
 μ-loop uid f₀ rem₀ diff₀ i₀ f rem diff i = length uid - i
-
-element-copy-out-wide : tie.Need-element-copy-out-wide Inv-loop μ-loop
-element-copy-out-wide c = search needs
-
-wide-requires : tie.Need-wide-requires Inv-loop μ-loop
-wide-requires c κs = search needs
 
 loop-holds : tie.Need-loop-holds Inv-loop μ-loop
 loop-holds c =
     let a = c .before .before .before .args in (
       omega arith,
       rw sub-zero (c .wide .ensures),
-      first (a .uid .now) (prefixOf (a .f .now)) (countOf (a .f .now)) (c .wide .result) (c .wide .ensures),
+      first (a .uid .now) (prefixOf (a .f .now)) (bitCountOf (a .f .now)) (c .wide .result) (c .wide .ensures),
       paste-zero (a .f .now) 10 (a .uid .now),
     )
-
-at-most-8-requires : tie.Need-at-most-8-requires Inv-loop μ-loop
-at-most-8-requires c κs = search needs
-
-shared-slice-read-differ : tie.Need-shared-slice-read-differ Inv-loop μ-loop
-shared-slice-read-differ c = search needs
-
-add-differ : tie.Need-add-differ Inv-loop μ-loop
-add-differ c = search needs
-
-element-copy-out-differ : tie.Need-element-copy-out-differ Inv-loop μ-loop
-element-copy-out-differ c = search needs
-
-differ-requires : tie.Need-differ-requires Inv-loop μ-loop
-differ-requires c κs = search needs
-
-shared-slice-read-f : tie.Need-shared-slice-read-f Inv-loop μ-loop
-shared-slice-read-f c = search needs
-
-add-f : tie.Need-add-f Inv-loop μ-loop
-add-f c = search needs
-
-element-write-f : tie.Need-element-write-f Inv-loop μ-loop
-element-write-f c = search needs
-
-sub-rem : tie.Need-sub-rem Inv-loop μ-loop
-sub-rem c = search needs
-
-add-i : tie.Need-add-i Inv-loop μ-loop
-add-i c = search needs
-
-loop-less : tie.Need-loop-less Inv-loop μ-loop
-loop-less c = search needs
 
 loop-again : tie.Need-loop-again Inv-loop μ-loop
 loop-again c =
@@ -78,7 +39,8 @@ loop-again c =
     let n = at-at-most-8 .at-most-8 in (
       omega arith,
       omega arith,
-      turn (a .uid .now) (a .f .now) (v .f) (countOf (a .f .now)) (v .rem) (v .i) (n .result) (v .diff) (c .before .differ .result) (omega arith) (v .inv .0) (omega arith)
+      turn (a .uid .now) (a .f .now) (v .f) (bitCountOf (a .f .now)) (v .rem) (v .i) (n .result) (v .diff) (c .before .differ .result) (omega arith)
+          (v .inv .0) (omega arith)
           (v .inv .1) (v .inv .2) (v .inv .3) (n .ensures) (c .before .differ .ensures),
       rw (v .inv .3, add-one) (paste-suc (a .f .now) 10 (a .uid .now) (v .i) 0 (omega arith) (omega arith)),
     )
@@ -88,7 +50,7 @@ returns c =
     let a = c .before .before .before .before .before .args in
     let v = c .before .loop in
     let e : v .i ≡ length (a .uid .now) = omega arith in (
-      past (a .uid .now) (prefixOf (a .f .now)) (countOf (a .f .now)) (v .rem) (v .i) (v .inv .1) (v .diff) e (v .inv .2),
+      past (a .uid .now) (prefixOf (a .f .now)) (bitCountOf (a .f .now)) (v .rem) (v .i) (v .inv .1) (v .diff) e (v .inv .2),
       v .inv .3 ∙ last (a .uid .now) (a .f .now) (v .i) e,
     )
 
@@ -98,19 +60,19 @@ pass-spec =
     (tie.spec
     Inv-loop
     μ-loop
-    element-copy-out-wide
-    wide-requires
+    (λ c. search needs)
+    (λ c κs. search needs)
     loop-holds
-    at-most-8-requires
-    shared-slice-read-differ
-    add-differ
-    element-copy-out-differ
-    differ-requires
-    shared-slice-read-f
-    add-f
-    element-write-f
-    sub-rem
-    add-i
-    loop-less
+    (λ c κs. search needs)
+    (λ c. search needs)
+    (λ c. search needs)
+    (λ c. search needs)
+    (λ c κs. search needs)
+    (λ c. search needs)
+    (λ c. search needs)
+    (λ c. search needs)
+    (λ c. search needs)
+    (λ c. search needs)
+    (λ c. search needs)
     loop-again
     returns)

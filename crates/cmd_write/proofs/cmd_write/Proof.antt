@@ -27,7 +27,8 @@ returns-2 c =
 returns-3 : tie.Need-returns-3
 returns-3 c =
     let a = c .before .before .before .before .args in
-    write-idle (a .capacity) (a .f .now) (a .flash .now) (a .page .now) (a .fill) (a .next) (a .meta .now) (sym (c .before .is-updating .ensures) ∙ c .if1 .left)
+    write-idle (a .capacity) (a .f .now) (a .flash .now) (a .page .now) (a .fill) (a .next) (a .meta .now)
+    (sym (c .before .is-updating .ensures) ∙ c .if1 .left)
 
 pub cmd-write-spec : {M : Type 1} → statement M
 cmd-write-spec =

@@ -37,5 +37,6 @@ fits-spec =
     (λ c. search needs)
     (λ c. search needs)
     returns
+    (λ c. search needs)
     returns-2
     returns-3)

@@ -18,24 +18,6 @@ abbrev μ-loop : tie.MeasureT-loop
 loop-holds : tie.Need-loop-holds Inv-loop μ-loop
 loop-holds c = (omega arith, paste-zero (c .args .page .now) (c .args .at) (drop (c .args .i) (c .args .d .now)), c .pre .0)
 
-add-page : tie.Need-add-page Inv-loop μ-loop
-add-page c = search needs
-
-shared-slice-read-page : tie.Need-shared-slice-read-page Inv-loop μ-loop
-shared-slice-read-page c = search needs
-
-add-page-2 : tie.Need-add-page-2 Inv-loop μ-loop
-add-page-2 c = search needs
-
-slice-write-page : tie.Need-slice-write-page Inv-loop μ-loop
-slice-write-page c = search needs
-
-add-j : tie.Need-add-j Inv-loop μ-loop
-add-j c = search needs
-
-loop-less : tie.Need-loop-less Inv-loop μ-loop
-loop-less c = search needs
-
 loop-again : tie.Need-loop-again Inv-loop μ-loop
 loop-again c =
     let a = c .before .before .before .args in
@@ -46,9 +28,6 @@ loop-again c =
     let e : getD x (v .j) 0 ≡ getD (a .d .now) (a .i + v .j) 0 = getD-drop (a .i) (a .d .now) (v .j) 0 in
     let s = paste-suc (a .page .now) (a .at) x (v .j) 0 (omega arith) (omega arith) in
     (omega arith, rw (v .inv .1, add-one, ← e) s, search needs)
-
-same-length : tie.Need-same-length Inv-loop μ-loop
-same-length c = search needs
 
 returns : tie.Need-returns Inv-loop μ-loop
 returns c =
@@ -63,12 +42,12 @@ lay-spec =
     Inv-loop
     μ-loop
     loop-holds
-    add-page
-    shared-slice-read-page
-    add-page-2
-    slice-write-page
-    add-j
-    loop-less
+    (λ c. search needs)
+    (λ c. search needs)
+    (λ c. search needs)
+    (λ c. search needs)
+    (λ c. search needs)
+    (λ c. search needs)
     loop-again
-    same-length
+    (λ c. search needs)
     returns)

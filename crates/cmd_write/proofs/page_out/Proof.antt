@@ -6,7 +6,8 @@ use Rattle.cmd_write.proofs.page_out.Tie as tie
 returns : tie.Need-returns
 returns c =
     let a = c .before .before .before .before .before .before .before .before .args in
-    out-is (a .flash .now) _ (a .page .now) (a .w .fill) (a .w .next) (a .n) _ (a .w .failed) _ (c .before .before .before .write-part .ensures) (c .refused .ensures)
+    out-is (a .flash .now) _ (a .page .now) (a .w .fill) (a .w .next) (a .n) _ (a .w .failed) _ (c .before .before .before .write-part .ensures)
+    (c .refused .ensures)
 
 pub page-out-spec : {M : Type 1} → statement M
 page-out-spec =

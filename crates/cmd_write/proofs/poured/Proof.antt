@@ -10,7 +10,8 @@ use Rattle.cmd_write.proofs.poured.Tie as tie
 
 abbrev Inv-loop : tie.InvT-loop
 Inv-loop d page₀ flash₀ w₀ i₀ page flash w i =
-    Pouring d (poured 64 (running flash₀ page₀ (w₀ .fill) (w₀ .next) (w₀ .failed)) d) (w₀ .next) (length flash₀) (running flash page (w .fill) (w .next) (w .failed)) i
+    Pouring d (poured 64 (running flash₀ page₀ (w₀ .fill) (w₀ .next) (w₀ .failed)) d) (w₀ .next) (length flash₀)
+    (running flash page (w .fill) (w .next) (w .failed)) i
 
 abbrev μ-loop : tie.MeasureT-loop
 μ-loop d page₀ flash₀ w₀ i₀ page flash w i = length d - i
@@ -26,9 +27,6 @@ loop-holds c =
       kept = refl;
       rest = refl;
     }
-
-sub-room : tie.Need-sub-room Inv-loop μ-loop
-sub-room c = search needs
 
 room-requires : tie.Need-room-requires Inv-loop μ-loop
 room-requires c κs = (c .before .loop .inv .stands .below, omega (arith, c .loop-test .taken))
@@ -62,12 +60,6 @@ loop-again c =
     pour-again (a .d .now) _ _ _ (running (l .flash) (l .page) (l .w .fill) (l .w .next) (l .w .failed)) (l .i) (l .inv) (at-room .room .result)
     (omega (arith, at-room .room .ensures .2, at-room .before .loop-test .taken)) _ (at-took .took .ensures)
 
-same-length : tie.Need-same-length Inv-loop μ-loop
-same-length c = search needs
-
-same-length-2 : tie.Need-same-length-2 Inv-loop μ-loop
-same-length-2 c = search needs
-
 returns : tie.Need-returns Inv-loop μ-loop
 returns c =
     let l = c .before .loop in
@@ -80,12 +72,12 @@ poured-spec =
     Inv-loop
     μ-loop
     loop-holds
-    sub-room
+    (λ c. search needs)
     room-requires
     took-requires
     add-i
     loop-less
     loop-again
-    same-length
-    same-length-2
+    (λ c. search needs)
+    (λ c. search needs)
     returns)

@@ -19,7 +19,8 @@ returns c =
     let n : length (drop (a .i) (a .d .now)) ≡ length (a .d .now) - a .i = length-drop (a .i) (a .d .now) in
     c .before .before .page-out .ensures ∙
     ap (λ (v : List ℕ). pageOut 64 64 (running (a .flash .now) v (a .w .fill + a .m) (a .w .next + a .m) (a .w .failed))) (at-lay .lay .ensures) ∙
-    part-out (a .flash .now) (a .page .now) (a .w .fill) (a .w .next) (a .w .failed) (drop (a .i) (a .d .now)) (p .5) (a .m) (p .0) (omega (arith, n, p .2)) (at-if1 .if1 .taken)
+    part-out (a .flash .now) (a .page .now) (a .w .fill) (a .w .next) (a .w .failed) (drop (a .i) (a .d .now)) (p .5) (a .m) (p .0) (omega (arith, n, p .2))
+    (at-if1 .if1 .taken)
 
 returns-2 : tie.Need-returns-2
 returns-2 c =
@@ -29,7 +30,8 @@ returns-2 c =
     let p = at-entry .pre in
     let n : length (drop (a .i) (a .d .now)) ≡ length (a .d .now) - a .i = length-drop (a .i) (a .d .now) in
     ap (λ (v : List ℕ). running (a .flash .now) v (a .w .fill + a .m) (a .w .next + a .m) (a .w .failed)) (at-lay .lay .ensures) ∙
-    part-laid (a .flash .now) (a .page .now) (a .w .fill) (a .w .next) (a .w .failed) (drop (a .i) (a .d .now)) (p .5) (a .m) (omega (arith, n, p .2)) (omega (arith, c .if1 .left, p .1))
+    part-laid (a .flash .now) (a .page .now) (a .w .fill) (a .w .next) (a .w .failed) (drop (a .i) (a .d .now)) (p .5) (a .m) (omega (arith, n, p .2))
+    (omega (arith, c .if1 .left, p .1))
 
 pub took-spec : {M : Type 1} → statement M
 took-spec =

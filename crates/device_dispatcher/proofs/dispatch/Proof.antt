@@ -9,25 +9,27 @@ returns : tie.Need-returns
 returns c = let t = c .before .before in
     let d = t .before .before in
     let a = d .before .before .before .before .before .args in
-    rw (c .mute .ensures) (rw (t .t .given .1) at (d .decide .ensures (a .page .now) (a .fill) (a .next) (a .flash .now) (a .meta .now) (a .room .now)))
+    rw (c .mute .ensures) (rw (t .t .given .1) at (d .decide .ensures (a .page .now) (a .flash .now) (a .meta .now) (a .room .now)))
 
 returns-2 : tie.Need-returns-2
-returns-2 c = let r = c .before .before .before in
+returns-2 c = let r = c .before .before .before .before in
     let o = r .before .before .before .before .before .before .before in
-    let t = o .before .before .before .before .before .before in
+    let m = o .before .before .before .before .before in
+    let t = m .before .before in
     let d = t .before .before in
     let a = d .before .before .before .before .before .args in
-    answered 52 _ _ _ (o .done .ensures) _ _ (c .either .ensures) (a .room .now) _ (r .reply .ensures) ∙
-    (rw (t .t2 .given .1) at (d .decide .ensures (a .page .now) (a .fill) (a .next) (a .flash .now) (a .meta .now) (a .room .now)))
+    rw (c .closing .ensures)
+    (answered 52 _ _ _ (rw (m .picked .ensures) at (o .done .ensures)) (a .room .now) _ (r .reply .ensures) ∙
+    (rw (t .t2 .given .1) at (d .decide .ensures (a .page .now) (a .flash .now) (a .meta .now) (a .room .now))))
 
 pub dispatch-spec : {M : Type 1} → statement M
-dispatch-spec =
-    tie.close
+dispatch-spec = tie.close
     (tie.spec
     (λ c κs. search needs)
     (λ c. search needs)
     (λ c κs. search needs)
     (λ c. search needs)
+    (λ c κs. search needs)
     (λ c κs. search needs)
     (λ c κs. search needs)
     (λ c κs. search needs)

@@ -1,6 +1,5 @@
 use Rattle.device_feed.proofs.Feeding.{call-quiet, call-ended}
-use Rattle.device_state.specs.State.{stateWith}
-use mathlib.Core.Bool.{false}
+use Rattle.device_state.specs.State.{world}
 use mathlib.Core.Path.{sym, _∙_}
 use native.Mathlib.Omega.{arith}
 use borrow.Author.Needs.{needs}
@@ -8,30 +7,31 @@ use Rattle.device_feed.proofs.pass.Statement.{statement}
 use Rattle.device_feed.proofs.pass.Tie as tie
 
 returns : tie.Need-returns
-returns c = let s = c .before .before .before .before .before .before .before .before .before in
-    let a = s .args in
-    rw (c .after .ensures)
-    (call-quiet 52 64 (a .setup) (stateWith (a .f .now) (a .got) (a .page .now) (a .fill) (a .next) (a .selected) false) (a .bytes .now) (a .flash .now) (a .meta .now) (a .reply .now)
-    _ (c .before .before .before .read-in .ensures) (s .pre) (sym (c .before .before .is-going .ensures) ∙ c .before .if1 .taken))
+returns c = let at-read = c .before .before .before in
+    let at-entry = at-read .before .before .before .before .before .before in
+    let a = at-entry .args in
+    rw (c .before .before .begun .ensures)
+    (call-quiet 52 64 (a .setup) (world (a .f .now) (a .page .now) (a .n) (a .flash .now) (a .meta .now)) (a .bytes .now) (a .reply .now) _
+    (at-read .read-in .ensures) (at-entry .pre) (sym (c .before .is-going .ensures) ∙ c .if1 .taken))
 
 returns-2 : tie.Need-returns-2
-returns-2 c = let d = c .before .before .before .before .before .before .before in
-    let r = d .before .before .before .before .before .before .before .before .before in
-    let s = r .before .before .before .before .before .before in
-    let a = s .args in
-    rw (c .after2 .ensures)
-    (call-ended 52 64 (a .setup) (stateWith (a .f .now) (a .got) (a .page .now) (a .fill) (a .next) (a .selected) false) (a .bytes .now) (a .flash .now) (a .meta .now) (a .reply .now)
-    _ (r .read-in .ensures) (s .pre) (sym (d .before .before .before .before .before .before .before .before .is-going .ensures) ∙ d .before .before .before .before .before .before .before .if1 .left) _ (rw (d .before .before .before .before .before .before .status-of .ensures) at (d .dispatch .ensures)))
+returns-2 c = let at-dispatch = c .before .before .before .before .before .before .before in
+    let at-kind = at-dispatch .before .before .before .before .before .before in
+    let at-begun = at-kind .before .before .before in
+    let at-read = at-begun .before in
+    let at-entry = at-read .before .before .before .before .before .before in
+    let a = at-entry .args in
+    call-ended 52 64 (a .setup) (world (a .f .now) (a .page .now) (a .n) (a .flash .now) (a .meta .now)) (a .bytes .now) (a .reply .now) _
+    (at-read .read-in .ensures) (at-entry .pre) (sym (at-kind .before .before .is-going .ensures) ∙ at-kind .before .if1 .left) _
+    (rw (at-kind .kind-of .ensures, at-begun .begun .ensures) at (at-dispatch .dispatch .ensures))
 
 pub pass-spec : {M : Type 1} → statement M
-pass-spec =
-    tie.close
+pass-spec = tie.close
     (tie.spec
     (λ c κs. search needs)
     (λ c κs. search needs)
     (λ c κs. search needs)
     returns
-    (λ c κs. search needs)
     (λ c κs. search needs)
     (λ c κs. search needs)
     (λ c. search needs)

@@ -1,6 +1,6 @@
 use Rattle.device_handler.proofs.Obeying.{verify-replied, verify-refused}
 use Rattle.wire_numbers.specs.Names.{statusNumber}
-use Rattle.device_handler.specs.Handling.{held}
+use Rattle.device_state.specs.State.{world}
 use Rattle.cmd_verify.specs.Verify.{verifiedTo}
 use mathlib.Core.Path.{sym, _∙_}
 use native.Mathlib.Omega.{arith}
@@ -15,7 +15,8 @@ returns c = let i = c .before .before .before .before in
     let r = c .loaded .ensures in
     λ p.
     rw (r, c .before .lay-crc .ensures)
-    (verify-replied (held (a .f .now) p (a .fill) (a .next) (a .flash .now) (a .meta .now)) _ _ (v .ensures) (sym (i .is-ok .ensures) ∙ c .before .before .before .if1 .taken))
+    (verify-replied (world (a .f .now) p (a .n) (a .flash .now) (a .meta .now)) _ _ (v .ensures)
+    (sym (i .is-ok .ensures) ∙ c .before .before .before .if1 .taken))
 
 returns-2 : tie.Need-returns-2
 returns-2 c = let i = c .before .before in
@@ -24,7 +25,7 @@ returns-2 c = let i = c .before .before in
     let r = c .bare .ensures in
     λ p.
     rw (r)
-    (verify-refused (held (a .f .now) p (a .fill) (a .next) (a .flash .now) (a .meta .now)) _ _ (v .ensures) (sym (i .is-ok .ensures) ∙ c .before .if1 .left))
+    (verify-refused (world (a .f .now) p (a .n) (a .flash .now) (a .meta .now)) _ _ (v .ensures) (sym (i .is-ok .ensures) ∙ c .before .if1 .left))
 
 pub check-spec : {M : Type 1} → statement M
 check-spec =

@@ -10,7 +10,8 @@ use Rattle.device_in_place.proofs.clear.Tie as tie
 returns : tie.Need-returns
 returns c =
     c .is-none .ensures ∙ ap (λ (n : ℕ). eqb n 0) (c .before .of-lengths .ensures) ∙
-    clear-all _ _ _ (sym (c .before .before .before .before .before .fits2 .ensures) ∙ c .before .before .before .before .if1 .taken) (sym (c .before .before .before .run-fits .ensures) ∙ c .before .before .if2 .taken)
+    clear-all _ _ _ (sym (c .before .before .before .before .before .fits2 .ensures) ∙ c .before .before .before .before .if1 .taken)
+    (sym (c .before .before .before .run-fits .ensures) ∙ c .before .before .if2 .taken)
 
 returns-2 : tie.Need-returns-2
 returns-2 c =

@@ -24,12 +24,14 @@ slice-write-f c =
 returns : tie.Need-returns
 returns c =
     let a = c .before .before .before .before .before .before .before .args in
-    lay-done 52 (a .device) (a .f .now) (a .got) (a .b) (sym (c .before .before .before .before .begins .ensures) ∙ c .before .before .before .if1 .taken) (sym (c .before .is-plain .ensures) ∙ c .if2 .taken)
+    lay-done 52 (a .device) (a .f .now) (a .got) (a .b) (sym (c .before .before .before .before .begins .ensures) ∙ c .before .before .before .if1 .taken)
+    (sym (c .before .is-plain .ensures) ∙ c .if2 .taken)
 
 returns-2 : tie.Need-returns-2
 returns-2 c =
     let a = c .before .before .before .before .before .before .before .args in
-    lay-elsewhere 52 (a .device) (a .f .now) (a .got) (a .b) (sym (c .before .before .before .before .begins .ensures) ∙ c .before .before .before .if1 .taken) (sym (c .before .is-plain .ensures) ∙ c .if2 .left)
+    lay-elsewhere 52 (a .device) (a .f .now) (a .got) (a .b) (sym (c .before .before .before .before .begins .ensures) ∙
+    c .before .before .before .if1 .taken) (sym (c .before .is-plain .ensures) ∙ c .if2 .left)
 
 returns-3 : tie.Need-returns-3
 returns-3 c =

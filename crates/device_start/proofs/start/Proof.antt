@@ -12,14 +12,16 @@ returns c =
     let at-refuses = at-is-none .before in
     let at-entry = at-refuses .before .before .before in
     let a = at-entry .args in
-    start-taken (a .setup) (modeNumber (a .mode)) (a .flash .now) (a .meta .now) _ (at-refuses .refuses .ensures) _ (at-is-none .is-none .ensures) (at-if1 .if1 .taken) _ (c .before .before .begun .ensures)
+    start-taken (a .setup) (modeNumber (a .mode)) (a .flash .now) (a .meta .now) _ (at-refuses .refuses .ensures) _ (at-is-none .is-none .ensures)
+    (at-if1 .if1 .taken) _ (c .before .before .begun .ensures)
 
 returns-2 : tie.Need-returns-2
 returns-2 c =
     let a = c .before .before .before .before .before .before .args in
     let r = c .refused .ensures in
     rw (r .0, r .1, r .2)
-    (start-refused (a .setup) (modeNumber (a .mode)) (a .flash .now) (a .meta .now) _ (c .before .before .before .refuses .ensures) _ (c .before .before .is-none .ensures) (c .before .if1 .left))
+    (start-refused (a .setup) (modeNumber (a .mode)) (a .flash .now) (a .meta .now) _ (c .before .before .before .refuses .ensures) _
+    (c .before .before .is-none .ensures) (c .before .if1 .left))
 
 pub start-spec : {M : Type 1} → statement M
 start-spec =

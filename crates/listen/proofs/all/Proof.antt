@@ -9,45 +9,18 @@ Inv-loop flash₀ meta₀ heard₀ turns₀ flash meta heard turns = Unit {0}
 abbrev μ-loop : tie.MeasureT-loop
 μ-loop flash₀ meta₀ heard₀ turns₀ flash meta heard turns = turns
 
-new-state-requires : tie.Need-new-state-requires Inv-loop μ-loop
-new-state-requires c κs = search needs
-
-loop-holds : tie.Need-loop-holds Inv-loop μ-loop
-loop-holds c = search needs
-
-some-requires : tie.Need-some-requires Inv-loop μ-loop
-some-requires c κs = search needs
-
-sub-turns : tie.Need-sub-turns Inv-loop μ-loop
-sub-turns c = search needs
-
-loop-less : tie.Need-loop-less Inv-loop μ-loop
-loop-less c = search needs
-
-loop-again : tie.Need-loop-again Inv-loop μ-loop
-loop-again c = search needs
-
-returns : tie.Need-returns Inv-loop μ-loop
-returns c = search needs
-
-returns-2 : tie.Need-returns-2 Inv-loop μ-loop
-returns-2 c = search needs
-
-returns-3 : tie.Need-returns-3 Inv-loop μ-loop
-returns-3 c = search needs
-
 pub all-spec : {M : Type 1} → statement M
 all-spec =
     tie.close
     (tie.spec
     Inv-loop
     μ-loop
-    new-state-requires
-    loop-holds
-    some-requires
-    sub-turns
-    loop-less
-    loop-again
-    returns
-    returns-2
-    returns-3)
+    (λ c κs. search needs)
+    (λ c. search needs)
+    (λ c κs. search needs)
+    (λ c. search needs)
+    (λ c. search needs)
+    (λ c. search needs)
+    (λ c. search needs)
+    (λ c. search needs)
+    (λ c. search needs))

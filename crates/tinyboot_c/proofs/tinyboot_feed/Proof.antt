@@ -14,7 +14,8 @@ returns c =
     let at-entry = at-holds-setup .before .before .before .before .before .before .before .before in
     let a = at-entry .args in
     let e = c .before .before .refuse .ensures in
-    rw (e .0, e .1) (feed-no-setup (a .setup .now) (a .state .now) (a .bytes .now) (a .flash .now) (a .meta .now) (a .reply .now) (a .answer .now) (sym (at-holds-setup .holds-setup .ensures) ∙ not-true _ (at-if1 .if1 .taken)))
+    rw (e .0, e .1) (feed-no-setup (a .setup .now) (a .state .now) (a .bytes .now) (a .flash .now) (a .meta .now) (a .reply .now) (a .answer .now)
+    (sym (at-holds-setup .holds-setup .ensures) ∙ not-true _ (at-if1 .if1 .taken)))
 
 setup-from-requires : tie.Need-setup-from-requires
 setup-from-requires c κs =
@@ -34,7 +35,9 @@ returns-2 c =
     let at-holds-setup = at-if1 .before in
     let at-entry = at-holds-setup .before .before .before .before .before .before .before .before in
     let a = at-entry .args in
-    feed-short (a .setup .now) (a .state .now) (a .bytes .now) (a .flash .now) (a .meta .now) (a .reply .now) (a .answer .now) (sym (at-holds-setup .holds-setup .ensures) ∙ not-false _ (at-if1 .if1 .left)) (sym (at-holds-state .holds-state .ensures) ∙ at-if2 .if2 .taken) (c .before .before .before .if3 .taken) _ (rw (c .before .before .setup-from .ensures) at (c .unanswered .ensures))
+    feed-short (a .setup .now) (a .state .now) (a .bytes .now) (a .flash .now) (a .meta .now) (a .reply .now) (a .answer .now)
+    (sym (at-holds-setup .holds-setup .ensures) ∙ not-false _ (at-if1 .if1 .left)) (sym (at-holds-state .holds-state .ensures) ∙ at-if2 .if2 .taken)
+    (c .before .before .before .if3 .taken) _ (rw (c .before .before .setup-from .ensures) at (c .unanswered .ensures))
 
 fed-requires : tie.Need-fed-requires
 fed-requires c κs =
@@ -42,8 +45,10 @@ fed-requires c κs =
     let at-if2 = at-if3 .before in
     let at-holds-state = at-if2 .before in
     let at-if1 = at-holds-state .before .before in
-    let at-holds-setup = at-if1 .before in
-    (eqb-true _ 31 (sym (at-holds-setup .holds-setup .ensures) ∙ not-false _ (at-if1 .if1 .left)), ((sym (at-holds-state .holds-state .ensures) ∙ at-if2 .if2 .taken), at-if3 .if3 .left))
+    let at-holds-setup = at-if1 .before in (
+      eqb-true _ 31 (sym (at-holds-setup .holds-setup .ensures) ∙ not-false _ (at-if1 .if1 .left)),
+      ((sym (at-holds-state .holds-state .ensures) ∙ at-if2 .if2 .taken), at-if3 .if3 .left),
+    )
 
 returns-3 : tie.Need-returns-3
 returns-3 c =
@@ -55,7 +60,9 @@ returns-3 c =
     let at-holds-setup = at-if1 .before in
     let at-entry = at-holds-setup .before .before .before .before .before .before .before .before in
     let a = at-entry .args in
-    feed-called (a .setup .now) (a .state .now) (a .bytes .now) (a .flash .now) (a .meta .now) (a .reply .now) (a .answer .now) (sym (at-holds-setup .holds-setup .ensures) ∙ not-false _ (at-if1 .if1 .left)) (sym (at-holds-state .holds-state .ensures) ∙ at-if2 .if2 .taken) (at-if3 .if3 .left) _ (at-fed .fed .ensures)
+    feed-called (a .setup .now) (a .state .now) (a .bytes .now) (a .flash .now) (a .meta .now) (a .reply .now) (a .answer .now)
+    (sym (at-holds-setup .holds-setup .ensures) ∙ not-false _ (at-if1 .if1 .left)) (sym (at-holds-state .holds-state .ensures) ∙ at-if2 .if2 .taken)
+    (at-if3 .if3 .left) _ (at-fed .fed .ensures)
 
 returns-4 : tie.Need-returns-4
 returns-4 c =
@@ -66,7 +73,8 @@ returns-4 c =
     let at-entry = at-holds-setup .before .before .before .before .before .before .before .before in
     let a = at-entry .args in
     let e = c .before .before .refuse2 .ensures in
-    rw (e .0, e .1) (feed-no-state (a .setup .now) (a .state .now) (a .bytes .now) (a .flash .now) (a .meta .now) (a .reply .now) (a .answer .now) (sym (at-holds-setup .holds-setup .ensures) ∙ not-false _ (at-if1 .if1 .left)) (sym (at-holds-state .holds-state .ensures) ∙ at-if2 .if2 .left))
+    rw (e .0, e .1) (feed-no-state (a .setup .now) (a .state .now) (a .bytes .now) (a .flash .now) (a .meta .now) (a .reply .now) (a .answer .now)
+    (sym (at-holds-setup .holds-setup .ensures) ∙ not-false _ (at-if1 .if1 .left)) (sym (at-holds-state .holds-state .ensures) ∙ at-if2 .if2 .left))
 
 pub tinyboot-feed-spec : {M : Type 1} → statement M
 tinyboot-feed-spec =

@@ -10,7 +10,8 @@ returns c =
     let s = c .before .before .before .before in
     let a = s .before .before .before .before .before .before .before .args in
     let e = c .before .before .refuse .ensures in
-    rw (e .0, e .1) (start-no-setup (a .mode) (a .setup .now) (a .state .now) (a .flash .now) (a .meta .now) (a .answer .now) (sym (s .before .holds-setup .ensures) ∙ not-true _ (s .if1 .taken)))
+    rw (e .0, e .1) (start-no-setup (a .mode) (a .setup .now) (a .state .now) (a .flash .now) (a .meta .now) (a .answer .now)
+    (sym (s .before .holds-setup .ensures) ∙ not-true _ (s .if1 .taken)))
 
 setup-from-requires : tie.Need-setup-from-requires
 setup-from-requires c κs =
@@ -22,7 +23,8 @@ returns-2 c =
     let f = s .before .before .before .before in
     let h = f .before .before in
     let a = h .before .before .before .before .before .before .args in
-    start-setup (a .mode) (a .setup .now) (a .state .now) (a .flash .now) (a .meta .now) (a .answer .now) (sym (h .holds-setup .ensures) ∙ not-false _ (f .before .if1 .left)) _
+    start-setup (a .mode) (a .setup .now) (a .state .now) (a .flash .now) (a .meta .now) (a .answer .now)
+    (sym (h .holds-setup .ensures) ∙ not-false _ (f .before .if1 .left)) _
     (rw (f .setup-from .ensures) at (s .start-in .ensures))
 
 pub tinyboot-start-spec : {M : Type 1} → statement M

@@ -17,28 +17,10 @@ Inv-loop name h₀ i₀ h i = (i ≤ length name) × (fold fnvStep h (drop i nam
 abbrev μ-loop : tie.MeasureT-loop
 μ-loop name h₀ i₀ h i = length name - i
 
-loop-holds : tie.Need-loop-holds Inv-loop μ-loop
-loop-holds c = search needs
-
-shared-slice-read-fnv-step : tie.Need-shared-slice-read-fnv-step Inv-loop μ-loop
-shared-slice-read-fnv-step c = search needs
-
-fnv-step-requires : tie.Need-fnv-step-requires Inv-loop μ-loop
-fnv-step-requires c κs = search needs
-
-add-i : tie.Need-add-i Inv-loop μ-loop
-add-i c = search needs
-
-loop-less : tie.Need-loop-less Inv-loop μ-loop
-loop-less c = search needs
-
 loop-again : tie.Need-loop-again Inv-loop μ-loop
 loop-again c =
     let l = c .before .before .before .loop in
     (omega arith, turned fnvStep _ (l .h) (l .i) _ (l .inv .1) _ (c .before .before .loop-test .taken) (c .fnv-step .ensures))
-
-sub-result : tie.Need-sub-result Inv-loop μ-loop
-sub-result c = search needs
 
 -- at the loop's end the hash is the whole name's
 whole : (c : tie.After-loop Inv-loop μ-loop) → c .before .loop .h ≡ fnv (c .before .before .before .args .name .now)
@@ -56,12 +38,12 @@ compat-key-spec =
     (tie.spec
     Inv-loop
     μ-loop
-    loop-holds
-    shared-slice-read-fnv-step
-    fnv-step-requires
-    add-i
-    loop-less
+    (λ c. search needs)
+    (λ c. search needs)
+    (λ c κs. search needs)
+    (λ c. search needs)
+    (λ c. search needs)
     loop-again
-    sub-result
+    (λ c. search needs)
     returns
     returns-2)

@@ -15,7 +15,8 @@ returns c =
 returns-2 : tie.Need-returns-2
 returns-2 c =
     let a = c .before .before .before .before .args in
-    taken (ltb (a .index) 14) (baudIndex (c .before .rate .given .0 .0)) (a .index) (baudIndex (a .default)) (sym (ap baudFoundOf (c .before .rate .given .1)) ∙ c .before .before .before .from-u8 .ensures)
+    taken (ltb (a .index) 14) (baudIndex (c .before .rate .given .0 .0)) (a .index) (baudIndex (a .default))
+    (sym (ap baudFoundOf (c .before .rate .given .1)) ∙ c .before .before .before .from-u8 .ensures)
 
 pub baud-or-spec : {M : Type 1} → statement M
 baud-or-spec = tie.close (tie.spec (λ c κs. search needs) (λ c. search needs) (λ c. search needs) returns returns-2)

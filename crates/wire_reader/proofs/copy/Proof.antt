@@ -18,24 +18,6 @@ abbrev μ-loop : tie.MeasureT-loop
 loop-holds : tie.Need-loop-holds Inv-loop μ-loop
 loop-holds c = (omega arith, paste-zero (c .args .f .now) (c .args .got) (drop (c .args .at) (c .args .bytes .now)), c .pre .0)
 
-add-f : tie.Need-add-f Inv-loop μ-loop
-add-f c = search needs
-
-shared-slice-read-f : tie.Need-shared-slice-read-f Inv-loop μ-loop
-shared-slice-read-f c = search needs
-
-add-f-2 : tie.Need-add-f-2 Inv-loop μ-loop
-add-f-2 c = search needs
-
-slice-write-f : tie.Need-slice-write-f Inv-loop μ-loop
-slice-write-f c = search needs
-
-add-j : tie.Need-add-j Inv-loop μ-loop
-add-j c = search needs
-
-loop-less : tie.Need-loop-less Inv-loop μ-loop
-loop-less c = search needs
-
 loop-again : tie.Need-loop-again Inv-loop μ-loop
 loop-again c =
     let a = c .before .before .before .args in
@@ -46,9 +28,6 @@ loop-again c =
     let e : getD d (v .j) 0 ≡ getD (a .bytes .now) (a .at + v .j) 0 = getD-drop (a .at) (a .bytes .now) (v .j) 0 in
     let s = paste-suc (a .f .now) (a .got) d (v .j) 0 (omega arith) (omega arith) in
     (omega arith, rw (v .inv .1, add-one, ← e) s, search needs)
-
-same-length : tie.Need-same-length Inv-loop μ-loop
-same-length c = search needs
 
 returns : tie.Need-returns Inv-loop μ-loop
 returns c =
@@ -63,12 +42,12 @@ copy-spec =
     Inv-loop
     μ-loop
     loop-holds
-    add-f
-    shared-slice-read-f
-    add-f-2
-    slice-write-f
-    add-j
-    loop-less
+    (λ c. search needs)
+    (λ c. search needs)
+    (λ c. search needs)
+    (λ c. search needs)
+    (λ c. search needs)
+    (λ c. search needs)
     loop-again
-    same-length
+    (λ c. search needs)
     returns)

@@ -20,7 +20,8 @@ use Rattle.wire_reader.proofs.finish.Tie as tie
 told : (c : tie.After-heard) →
     let a = c .before .before .before .args in
     checked (a .device) (take (10 + a .n) (a .f .now) ++ (getD (a .f .now) 62 0 ∷ a .high ∷ [])) ≡
-    pick (c .heard .result) Kind.Overheard (pick (eqb (crcOf (take (10 + a .n) (a .f .now))) (lowFirst (getD (a .f .now) 62 0 ∷ a .high ∷ []))) Kind.Good Kind.CrcMismatch)
+    pick (c .heard .result) Kind.Overheard (pick (eqb (crcOf (take (10 + a .n) (a .f .now))) (lowFirst (getD (a .f .now) 62 0 ∷ a .high ∷ []))) Kind.Good
+    Kind.CrcMismatch)
 told c =
     let a = c .before .before .before .args in
     let l : length (a .f .now) ≡ 64 = c .before .before .before .pre .0 in

@@ -13,13 +13,15 @@ returns c =
 returns-2 : tie.Need-returns-2
 returns-2 c =
     let a = c .before .before .before .before .before .before .args in
-    passed-step 52 (a .device) (a .f .now) (a .got) (c .before .before .before .before .before .before .pre .2) (a .b) (omega arith) (sym (c .before .before .judge .ensures) ∙ c .enum-told .given .1)
+    passed-step 52 (a .device) (a .f .now) (a .got) (c .before .before .before .before .before .before .pre .2) (a .b) (omega arith)
+    (sym (c .before .before .judge .ensures) ∙ c .enum-told .given .1)
 
 returns-3 : tie.Need-returns-3
 returns-3 c =
     let a = c .before .before .before .before .before .before .args in
     let e = c .enum-told2 .given .1 in
-    rw e (refused-step 52 (a .device) (a .f .now) (a .got) (c .before .before .before .before .before .before .pre .2) (a .b) (omega arith) (c .enum-told2 .given .0 .0) (sym (c .before .before .judge .ensures) ∙ e))
+    rw e (refused-step 52 (a .device) (a .f .now) (a .got) (c .before .before .before .before .before .before .pre .2) (a .b) (omega arith)
+    (c .enum-told2 .given .0 .0) (sym (c .before .before .judge .ensures) ∙ e))
 
 pub head-spec : {M : Type 1} → statement M
 head-spec =

@@ -25,15 +25,6 @@ take-turn-requires c κs = (c .before .loop-test .taken, c .before .before .loop
 add-i : tie.Need-add-i Inv-loop μ-loop
 add-i c = omega (arith, c .before .before .before .take-turn .ensures .within)
 
-enum-known-end : tie.Need-enum-known-end Inv-loop μ-loop
-enum-known-end c = search needs
-
-told-requires : tie.Need-told-requires Inv-loop μ-loop
-told-requires c κs = search needs
-
-same-length : tie.Need-same-length Inv-loop μ-loop
-same-length c = search needs
-
 returns : tie.Need-returns Inv-loop μ-loop
 returns c =
     let at-take-turn = c .before .before .before .before .before .before .before in
@@ -44,10 +35,8 @@ returns c =
     let t = at-take-turn .take-turn in
     let e = c .before .before .end .given in
     rw (c .told .ensures)
-    (over-at 52 (a .device) (a .bytes .now) _ (v .f) (v .got) (v .i) (v .inv) (t .last .0) (t .result .got) (t .result .taken) (e .0 .0) (rw (e .1) at (t .ensures)))
-
-enum-told : tie.Need-enum-told Inv-loop μ-loop
-enum-told c = search needs
+    (over-at 52 (a .device) (a .bytes .now) _ (v .f) (v .got) (v .i) (v .inv) (t .last .0) (t .result .got) (t .result .taken) (e .0 .0)
+    (rw (e .1) at (t .ensures)))
 
 loop-less : tie.Need-loop-less Inv-loop μ-loop
 loop-less c = let t = c .before .before .before .before .before .take-turn in
@@ -61,10 +50,8 @@ loop-again c =
     let a = at-entry .args in
     let v = at-loop .loop in
     let t = at-take-turn .take-turn in
-    again 52 (a .device) (a .bytes .now) _ (v .f) (v .got) (v .i) (v .inv) (t .last .0) (t .result .got) (t .result .taken) (rw (c .enum-told .given .1) at (t .ensures))
-
-same-length-2 : tie.Need-same-length-2 Inv-loop μ-loop
-same-length-2 c = search needs
+    again 52 (a .device) (a .bytes .now) _ (v .f) (v .got) (v .i) (v .inv) (t .last .0) (t .result .got) (t .result .taken)
+    (rw (c .enum-told .given .1) at (t .ensures))
 
 returns-2 : tie.Need-returns-2 Inv-loop μ-loop
 returns-2 c =
@@ -81,12 +68,12 @@ pass-spec =
     loop-holds
     take-turn-requires
     add-i
-    enum-known-end
-    told-requires
-    same-length
+    (λ c. search needs)
+    (λ c κs. search needs)
+    (λ c. search needs)
     returns
-    enum-told
+    (λ c. search needs)
     loop-less
     loop-again
-    same-length-2
+    (λ c. search needs)
     returns-2)

@@ -13,4 +13,5 @@ tail-requires c κs = (c .before .if2 .left, c .before .before .before .before .
 
 pub push-spec : {M : Type 1} → statement M
 push-spec =
-    tie.close (tie.spec (λ c κs. search needs) returns (λ c κs. search needs) (λ c. search needs) (λ c. search needs) tail-requires (λ c. search needs) (λ c. search needs))
+    tie.close (tie.spec (λ c κs. search needs) returns (λ c κs. search needs) (λ c. search needs) (λ c. search needs) tail-requires (λ c. search needs)
+    (λ c. search needs))

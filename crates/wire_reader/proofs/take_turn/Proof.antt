@@ -24,7 +24,8 @@ fill-requires c κs =
     let a = c .before .before .before .before .before .before .before .args in
     let p = c .before .before .before .before .before .before .before .pre in
     let e = c .before .before .before .wanted .ensures in
-    wanted-fits 52 (a .device) (a .f .now) (a .got) (p .1) (a .bytes .now) (a .at) (c .before .least .result) (p .0) (λ z. c .before .before .if1 .left (e ∙ z)) (rw e at (c .before .least .ensures))
+    wanted-fits 52 (a .device) (a .f .now) (a .got) (p .1) (a .bytes .now) (a .at) (c .before .least .result) (p .0)
+    (λ z. c .before .before .if1 .left (e ∙ z)) (rw e at (c .before .least .ensures))
 
 add-t17 : tie.Need-add-t17
 add-t17 c =
@@ -36,7 +37,11 @@ add-t17 c =
     let p = at-entry .pre in
     let e = at-wanted .wanted .ensures in
     let m = at-least .least in
-    omega (arith, wanted-fits 52 (a .device) (a .f .now) (a .got) (p .1) (a .bytes .now) (a .at) (m .result) (p .0) (λ z. at-if1 .if1 .left (e ∙ z)) (rw e at (m .ensures)))
+    omega (
+      arith,
+      wanted-fits 52 (a .device) (a .f .now) (a .got) (p .1) (a .bytes .now) (a .at) (m .result) (p .0) (λ z. at-if1 .if1 .left (e ∙ z))
+          (rw e at (m .ensures)),
+    )
 
 returns-2 : tie.Need-returns-2
 returns-2 c =

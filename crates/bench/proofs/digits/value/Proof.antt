@@ -18,8 +18,10 @@ returns-2 c =
 returns-3 : tie.Need-returns-3
 returns-3 c =
     let x = c .before .before .before .before .before .before .args .c in
+    let not-digit = lt-leb x 57 (omega arith) in
+    let not-upper = lt-leb x 70 (omega arith) in
     simp
-    (lt-leb x 57 (omega arith), le-leb 48 x (omega arith), le-leb 65 x (omega arith), lt-leb x 70 (omega arith), le-leb 97 x (omega arith), le-leb x 102 (omega arith))
+    (not-digit, le-leb 48 x (omega arith), le-leb 65 x (omega arith), not-upper, le-leb 97 x (omega arith), le-leb x 102 (omega arith))
     (omega arith)
 
 returns-4 : tie.Need-returns-4
@@ -41,8 +43,10 @@ returns-6 c =
 returns-7 : tie.Need-returns-7
 returns-7 c =
     let x = c .before .before .before .before .before .before .args .c in
+    let not-digit = lt-leb x 57 (omega arith) in
+    let not-upper = lt-leb x 70 (omega arith) in
     simp
-    (le-leb 48 x (omega arith), lt-leb x 57 (omega arith), le-leb 65 x (omega arith), lt-leb x 70 (omega arith), le-leb 97 x (omega arith), lt-leb x 102 (omega arith))
+    (le-leb 48 x (omega arith), not-digit, le-leb 65 x (omega arith), not-upper, le-leb 97 x (omega arith), lt-leb x 102 (omega arith))
 
 pub value-spec : {M : Type 1} → statement M
 value-spec =

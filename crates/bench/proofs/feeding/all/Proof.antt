@@ -7,85 +7,53 @@ use Rattle.bench.proofs.feeding.all.Statement.{statement}
 use Rattle.bench.proofs.feeding.all.Tie as tie
 
 abbrev Inv-loop : tie.InvT-loop
-Inv-loop bytes f₀ page₀ flash₀ record₀ room₀ out₀ bench₀ at₀ f page flash «record» room out bench at =
-    (at ≤ length bytes) × (length flash ≡ length flash₀) × (length «record» ≡ length record₀) × (length room ≡ length room₀) × (length out ≡ length out₀)
+Inv-loop bytes f₀ page₀ flash₀ room₀ out₀ bench₀ at₀ f page flash room out bench at =
+    (at ≤ length bytes) × (length flash ≡ length flash₀) × (length room ≡ length room₀) × (length out ≡ length out₀)
 
 abbrev μ-loop : tie.MeasureT-loop
-μ-loop bytes f₀ page₀ flash₀ record₀ room₀ out₀ bench₀ at₀ f page flash «record» room out bench at =
-    length bytes - at
+μ-loop bytes f₀ page₀ flash₀ room₀ out₀ bench₀ at₀ f page flash room out bench at = length bytes - at
 
--- the loop's head, from where a call has been made
+-- from where a call has been made: the buffers that it was lent, and the loop's head
+abbrev at-out : tie.After-bench Inv-loop μ-loop → tie.After-out Inv-loop μ-loop
+at-out c = c .before .before
+
+abbrev at-room : tie.After-bench Inv-loop μ-loop → tie.After-room Inv-loop μ-loop
+at-room c = at-out c .before .before
+
+abbrev at-flash : tie.After-bench Inv-loop μ-loop → tie.After-flash Inv-loop μ-loop
+at-flash c = at-room c .before .before
+
 abbrev top : tie.After-bench Inv-loop μ-loop → tie.At-loop Inv-loop μ-loop
-top c = c .before .before .before .before .before .before .before .before .before .before .before .before .before .before .before .before .before
-
-loop-holds : tie.Need-loop-holds Inv-loop μ-loop
-loop-holds c = search needs
-
-sub-call : tie.Need-sub-call Inv-loop μ-loop
-sub-call c = search needs
-
-part-call-start : tie.Need-part-call-start Inv-loop μ-loop
-part-call-start c = search needs
-
-part-call-end : tie.Need-part-call-end Inv-loop μ-loop
-part-call-end c = search needs
-
-call-requires : tie.Need-call-requires Inv-loop μ-loop
-call-requires c κs = search needs
+top c = at-flash c .before .before .before .before .before .before .before .before
 
 sub-if3 : tie.Need-sub-if3 Inv-loop μ-loop
-sub-if3 c = search needs
+sub-if3 c = omega (arith, top (c .before .before .before) .loop .inv .0)
 
 add-at : tie.Need-add-at Inv-loop μ-loop
 add-at c =
-    omega (arith, top (c .before .before .before .before) .loop .inv .0, c .before .before .before .before .before .before .before .before .before .before .before .before .before .before .before .before .before .before .before .before .before .before .before .before .before .before .before .good)
-
-loop-less : tie.Need-loop-less Inv-loop μ-loop
-loop-less c = search needs
+    let at-loop = top (c .before .before .before .before) in
+    omega (arith, at-loop .loop .inv .0, at-loop .before .before .before .before .before .good)
 
 loop-again : tie.Need-loop-again Inv-loop μ-loop
 loop-again c =
-    let i = top (c .before .before .before .before) .loop .inv in (
-      omega (arith, i .0),
-      c .before .before .before .before .before .before .before .before .before .before .before .before .flash .given ∙ i .1,
-      c .before .before .before .before .before .before .before .before .before .before .«record» .given ∙ i .2,
-      c .before .before .before .before .before .before .before .before .room .given ∙ i .3,
-      c .before .before .before .before .before .before .out .given ∙ i .4,
-    )
-
-same-length : tie.Need-same-length Inv-loop μ-loop
-same-length c = search needs
-
-same-length-2 : tie.Need-same-length-2 Inv-loop μ-loop
-same-length-2 c = search needs
-
-same-length-3 : tie.Need-same-length-3 Inv-loop μ-loop
-same-length-3 c = search needs
+    let t = c .before .before .before .before in
+    let i = top t .loop .inv in
+    (omega (arith, i .0), at-flash t .flash .given ∙ i .1, at-room t .room .given ∙ i .2, at-out t .out .given ∙ i .3)
 
 same-length-4 : tie.Need-same-length-4 Inv-loop μ-loop
-same-length-4 c = search needs
-
-returns : tie.Need-returns Inv-loop μ-loop
-returns c = search needs
+same-length-4 c =
+    let t = c .before .before .before .before in
+    at-flash t .flash .given ∙ top t .loop .inv .1
 
 same-length-5 : tie.Need-same-length-5 Inv-loop μ-loop
 same-length-5 c =
-    c .before .before .before .before .before .before .before .before .before .before .before .before .flash .given ∙ top (c .before .before .before .before) .loop .inv .1
+    let t = c .before .before .before .before in
+    at-room t .room .given ∙ top t .loop .inv .2
 
 same-length-6 : tie.Need-same-length-6 Inv-loop μ-loop
 same-length-6 c =
-    c .before .before .before .before .before .before .before .before .before .before .«record» .given ∙ top (c .before .before .before .before) .loop .inv .2
-
-same-length-7 : tie.Need-same-length-7 Inv-loop μ-loop
-same-length-7 c =
-    c .before .before .before .before .before .before .before .before .room .given ∙ top (c .before .before .before .before) .loop .inv .3
-
-same-length-8 : tie.Need-same-length-8 Inv-loop μ-loop
-same-length-8 c =
-    c .before .before .before .before .before .before .out .given ∙ top (c .before .before .before .before) .loop .inv .4
-
-returns-2 : tie.Need-returns-2 Inv-loop μ-loop
-returns-2 c = search needs
+    let t = c .before .before .before .before in
+    at-out t .out .given ∙ top t .loop .inv .3
 
 pub all-spec : {M : Type 1} → statement M
 all-spec =
@@ -93,22 +61,20 @@ all-spec =
     (tie.spec
     Inv-loop
     μ-loop
-    loop-holds
-    sub-call
-    part-call-start
-    part-call-end
-    call-requires
+    (λ c. search needs)
+    (λ c. search needs)
+    (λ c. search needs)
+    (λ c. search needs)
+    (λ c κs. search needs)
     sub-if3
     add-at
-    loop-less
+    (λ c. search needs)
     loop-again
-    same-length
-    same-length-2
-    same-length-3
+    (λ c. search needs)
+    (λ c. search needs)
+    (λ c. search needs)
+    (λ c. search needs)
     same-length-4
-    returns
     same-length-5
     same-length-6
-    same-length-7
-    same-length-8
-    returns-2)
+    (λ c. search needs))

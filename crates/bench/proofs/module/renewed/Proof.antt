@@ -5,8 +5,8 @@ use Rattle.bench.proofs.module.renewed.Tie as tie
 
 same-length : tie.Need-same-length
 same-length c =
-    let at-flash = c .before .before .before .before .before .before .before .before .before .before .before .before .before .before in
-    at-flash .flash .given
+    let at-new-state = c .before .before .before .before .before in
+    at-new-state .before .before .before .before .before .before .flash .given
 
 pub renewed-spec : {M : Type 1} → statement M
 renewed-spec =
@@ -17,8 +17,6 @@ renewed-spec =
     (λ c κs. search needs)
     (λ c κs. search needs)
     (λ c κs. search needs)
-    (λ c κs. search needs)
     same-length
-    (λ c. search needs)
     (λ c. search needs)
     (λ c. search needs))

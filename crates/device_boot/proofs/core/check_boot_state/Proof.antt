@@ -17,7 +17,8 @@ returns-2 c =
     let a = at-entry .args in
     let l = at-cleared .cleared in
     rw (at-enum-told2 .enum-told2 .given .1)
-    (rw (c .if2 .taken) at (start-judged (a .capacity) (a .flash .now) (a .meta .now) (l .result) (l .last .0) (l .ensures) (c .before .before .before .if1 .taken) (c .before .validate-app .result) (c .before .validate-app .ensures)))
+    (rw (c .if2 .taken) at (start-judged (a .capacity) (a .flash .now) (a .meta .now) (l .result) (l .last .0) (l .ensures)
+    (c .before .before .before .if1 .taken) (c .before .validate-app .result) (c .before .validate-app .ensures)))
 
 returns-3 : tie.Need-returns-3
 returns-3 c =
@@ -27,7 +28,8 @@ returns-3 c =
     let a = at-entry .args in
     let l = at-cleared .cleared in
     rw (at-enum-told2 .enum-told2 .given .1)
-    (rw (c .if2 .left) at (start-judged (a .capacity) (a .flash .now) (a .meta .now) (l .result) (l .last .0) (l .ensures) (c .before .before .before .if1 .taken) (c .before .validate-app .result) (c .before .validate-app .ensures)))
+    (rw (c .if2 .left) at (start-judged (a .capacity) (a .flash .now) (a .meta .now) (l .result) (l .last .0) (l .ensures)
+    (c .before .before .before .if1 .taken) (c .before .validate-app .result) (c .before .validate-app .ensures)))
 
 returns-4 : tie.Need-returns-4
 returns-4 c =

@@ -12,7 +12,8 @@ returns c =
 
 returns-2 : tie.Need-returns-2
 returns-2 c =
-    clear-updating (c .before .before .before .before .before .args .meta .now) _ (c .before .before .boot-state .ensures) (ap stateByte (c .enum-told2 .given .1))
+    clear-updating (c .before .before .before .before .before .args .meta .now) _ (c .before .before .boot-state .ensures)
+    (ap stateByte (c .enum-told2 .given .1))
 
 returns-3 : tie.Need-returns-3
 returns-3 c =

@@ -10,13 +10,15 @@ use Rattle.device_boot.proofs.core.validate_app.Tie as tie
 returns : tie.Need-returns
 returns c =
     let a = c .before .before .before .before .before .args in
-    c .app-present .ensures ∙ sym (valid-bare (a .capacity) (a .flash .now) (a .meta .now) (sym (c .before .before .app-checksum .ensures) ∙ c .before .if1 .taken))
+    c .app-present .ensures ∙ sym (valid-bare (a .capacity) (a .flash .now) (a .meta .now)
+    (sym (c .before .before .app-checksum .ensures) ∙ c .before .if1 .taken))
 
 returns-2 : tie.Need-returns-2
 returns-2 c =
     let a = c .before .before .before .before .before .before .args in
     let s = c .before .before .before .app-checksum .ensures in
-    sym (valid-long (a .capacity) (a .flash .now) (a .meta .now) (λ w. c .before .before .if1 .left (s ∙ w)) (rw (c .before .app-size .ensures) at (c .if2 .taken)))
+    sym (valid-long (a .capacity) (a .flash .now) (a .meta .now) (λ w. c .before .before .if1 .left (s ∙ w))
+    (rw (c .before .app-size .ensures) at (c .if2 .taken)))
 
 returns-3 : tie.Need-returns-3
 returns-3 c =
@@ -24,7 +26,8 @@ returns-3 c =
     let s = c .before .before .before .before .before .app-checksum .ensures in
     let z = c .before .before .before .app-size .ensures in
     rw (c .crc16 .ensures, c .before .first .ensures, z, s)
-    (sym (valid-crc (a .capacity) (a .flash .now) (a .meta .now) (λ w. c .before .before .before .before .if1 .left (s ∙ w)) (rw z at (c .before .before .if2 .left))))
+    (sym (valid-crc (a .capacity) (a .flash .now) (a .meta .now) (λ w. c .before .before .before .before .if1 .left (s ∙ w))
+    (rw z at (c .before .before .if2 .left))))
 
 pub validate-app-spec : {M : Type 1} → statement M
 validate-app-spec =

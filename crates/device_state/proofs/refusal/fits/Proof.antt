@@ -1,20 +1,24 @@
 use mathlib.Core.Path.{sym, _∙_}
-use Rattle.device_state.specs.Refusals.{setUp}
+use Rattle.device_state.specs.Refusals.{fits}
 use native.Mathlib.Omega.{arith}
 use borrow.Author.Needs.{needs}
 use Rattle.device_state.proofs.refusal.fits.Statement.{statement}
 use Rattle.device_state.proofs.refusal.fits.Tie as tie
 
 returns : tie.Need-returns
-unfolding setUp
+unfolding fits
 returns c = simp (sym (c .before .before .before .erase-fits .ensures) ∙ c .before .before .if1 .taken, sym (c .before .capacity-fits .ensures) ∙ c .if2 .taken)
 
 returns-2 : tie.Need-returns-2
-unfolding setUp
-returns-2 c = simp (sym (c .before .before .before .erase-fits .ensures) ∙ c .before .before .if1 .taken, sym (c .before .capacity-fits .ensures) ∙ c .if2 .left)
+unfolding fits
+returns-2 c = simp (
+  sym (c .before .before .before .erase-fits .ensures) ∙ c .before .before .if1 .taken,
+  sym (c .before .capacity-fits .ensures) ∙
+      c .if2 .left,
+)
 
 returns-3 : tie.Need-returns-3
-unfolding setUp
+unfolding fits
 returns-3 c = simp (sym (c .before .erase-fits .ensures) ∙ c .if1 .left)
 
 pub fits-spec : {M : Type 1} → statement M

@@ -19,11 +19,23 @@ returns-3 c = simp (eq-eqb _ _ (c .before .before .if1 .left), eq-eqb _ _ (c .be
 
 returns-4 : tie.Need-returns-4
 unfolding lengthsOf
-returns-4 c = simp (eq-eqb _ _ (c .before .before .before .if1 .left), eq-eqb _ _ (c .before .before .if2 .left), le-ltb _ _ (c .before .if3 .left), c .if4 .taken)
+returns-4 c = simp (
+  eq-eqb _ _ (c .before .before .before .if1 .left),
+  eq-eqb _ _ (c .before .before .if2 .left),
+  le-ltb _ _ (c .before .if3 .left),
+  c .if4
+      .taken,
+)
 
 returns-5 : tie.Need-returns-5
 unfolding lengthsOf
-returns-5 c = simp (eq-eqb _ _ (c .before .before .before .if1 .left), eq-eqb _ _ (c .before .before .if2 .left), le-ltb _ _ (c .before .if3 .left), c .if4 .left)
+returns-5 c = simp (
+  eq-eqb _ _ (c .before .before .before .if1 .left),
+  eq-eqb _ _ (c .before .before .if2 .left),
+  le-ltb _ _ (c .before .if3 .left),
+  c .if4
+      .left,
+)
 
 pub of-lengths-spec : {M : Type 1} → statement M
 of-lengths-spec = tie.close (tie.spec returns returns-2 returns-3 returns-4 returns-5)

@@ -26,26 +26,15 @@ done s new i h = rw (drop-of-length-le new h)
 loop-holds : tie.Need-loop-holds Inv-loop μ-loop
 loop-holds c = (search needs, search needs, refl)
 
-shared-slice-read-put : tie.Need-shared-slice-read-put Inv-loop μ-loop
-shared-slice-read-put c = search needs
-
-put-requires : tie.Need-put-requires Inv-loop μ-loop
-put-requires c κs = search needs
-
-add-i : tie.Need-add-i Inv-loop μ-loop
-add-i c = search needs
-
-loop-less : tie.Need-loop-less Inv-loop μ-loop
-loop-less c = search needs
-
 loop-again : tie.Need-loop-again Inv-loop μ-loop
 loop-again c =
     let l = c .before .before .before .before .before .before .loop in
-    let p = c .before .before .put in
-    (omega arith, ap length (p .ensures) ∙ simp length-set (l .inv .1), rw (p .ensures) (more _ _ _ (c .before .before .before .before .before .loop-test .taken) ∙ l .inv .2))
-
-same-length : tie.Need-same-length Inv-loop μ-loop
-same-length c = search needs
+    let p = c .before .before .put in (
+      omega arith,
+      ap length (p .ensures) ∙ simp length-set (l .inv .1),
+      rw (p .ensures)
+          (more _ _ _ (c .before .before .before .before .before .loop-test .taken) ∙ l .inv .2),
+    )
 
 returns : tie.Need-returns Inv-loop μ-loop
 returns c = sym (done _ _ _ (c .loop-test .left)) ∙ c .before .loop .inv .2
@@ -57,10 +46,10 @@ lay-spec =
     Inv-loop
     μ-loop
     loop-holds
-    shared-slice-read-put
-    put-requires
-    add-i
-    loop-less
+    (λ c. search needs)
+    (λ c κs. search needs)
+    (λ c. search needs)
+    (λ c. search needs)
     loop-again
-    same-length
+    (λ c. search needs)
     returns)

@@ -20,31 +20,10 @@ abbrev μ-loop : tie.MeasureT-loop
 loop-holds : tie.Need-loop-holds Inv-loop μ-loop
 loop-holds c = (search needs, search needs, rw add-zero)
 
-add-k : tie.Need-add-k Inv-loop μ-loop
-add-k c = search needs
-
-slice-read-flash : tie.Need-slice-read-flash Inv-loop μ-loop
-slice-read-flash c = search needs
-
-shared-slice-read-flash : tie.Need-shared-slice-read-flash Inv-loop μ-loop
-shared-slice-read-flash c = search needs
-
-slice-write-flash : tie.Need-slice-write-flash Inv-loop μ-loop
-slice-write-flash c = search needs
-
-add-j : tie.Need-add-j Inv-loop μ-loop
-add-j c = search needs
-
-loop-less : tie.Need-loop-less Inv-loop μ-loop
-loop-less c = search needs
-
 loop-again : tie.Need-loop-again Inv-loop μ-loop
 loop-again c =
     let l = c .before .before .before .loop in
     (search needs, simp length-set (l .inv .1), write-more _ _ _ _ (c .before .before .loop-test .taken) (omega arith) ∙ l .inv .2)
-
-same-length : tie.Need-same-length Inv-loop μ-loop
-same-length c = search needs
 
 returns : tie.Need-returns Inv-loop μ-loop
 returns c = sym (write-done _ _ _ _ (c .loop-test .left)) ∙ c .before .loop .inv .2
@@ -56,12 +35,12 @@ program-spec =
     Inv-loop
     μ-loop
     loop-holds
-    add-k
-    slice-read-flash
-    shared-slice-read-flash
-    slice-write-flash
-    add-j
-    loop-less
+    (λ c. search needs)
+    (λ c. search needs)
+    (λ c. search needs)
+    (λ c. search needs)
+    (λ c. search needs)
+    (λ c. search needs)
     loop-again
-    same-length
+    (λ c. search needs)
     returns)

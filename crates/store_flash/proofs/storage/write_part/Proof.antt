@@ -1,7 +1,7 @@
 use mathlib.Core.Path.{ap, _∙_}
 use mathlib.Core.List.{List}
 use Prim.Native.Nat.{ℕ}
-use Rattle.store_flash.specs.Flash.{writeOf}
+use Rattle.store_flash.specs.Flash.{pageWritten}
 use borrow.Author.Needs.{needs}
 use Rattle.store_flash.proofs.storage.write_part.Statement.{statement}
 use Rattle.store_flash.proofs.storage.write_part.Tie as tie
@@ -9,7 +9,7 @@ use Rattle.store_flash.proofs.storage.write_part.Tie as tie
 returns : tie.Need-returns
 returns c =
     let a = c .before .before .before .before .before .before .before .args in
-    c .before .before .write .ensures ∙ ap (λ (d : List ℕ). writeOf 64 (a .flash .now) (a .offset) d) (c .before .before .before .before .first .ensures)
+    c .before .before .write .ensures ∙ ap (λ (d : List ℕ). pageWritten 64 (a .flash .now) (a .offset) d) (c .before .before .before .before .first .ensures)
 
 pub write-part-spec : {M : Type 1} → statement M
 write-part-spec = tie.close (tie.spec (λ c κs. search needs) (λ c κs. search needs) (λ c. search needs) returns)

@@ -18,7 +18,8 @@ built m c z s checksum state size es ec ez = rw (es, ec, ez)
 returns : tie.Need-returns
 returns c =
     let b = c .before .before .before .before .before in
-    c .before .before .lay .ensures ∙ built (b .before .before .before .before .args .meta .now) _ _ _ _ _ _ (b .to-u8 .ensures) (b .before .before .bytes16 .ensures) (b .before .bytes32 .ensures)
+    c .before .before .lay .ensures ∙ built (b .before .before .before .before .args .meta .now) _ _ _ _ _ _ (b .to-u8 .ensures)
+    (b .before .before .bytes16 .ensures) (b .before .bytes32 .ensures)
 
 pub refresh-spec : {M : Type 1} → statement M
 refresh-spec =

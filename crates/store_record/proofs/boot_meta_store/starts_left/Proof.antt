@@ -19,9 +19,6 @@ none-left : startsLeft 0 ≡ 0
 unfolding startsLeft longest
 none-left = refl
 
-add-if1 : tie.Need-add-if1 Inv-loop μ-loop
-add-if1 c = search needs
-
 returns : tie.Need-returns Inv-loop μ-loop
 returns c = low-ones _ (search needs) (c .if1 .taken)
 
@@ -52,7 +49,7 @@ starts-left-spec =
     (tie.spec
     Inv-loop
     μ-loop
-    add-if1
+    (λ c. search needs)
     returns
     loop-holds
     shr-low

@@ -48,7 +48,8 @@ returns-2 : tie.Need-returns-2
 returns-2 c =
     let b = c .before .before .before .before in
     present _ _ _ _ _ _ (b .before .if1 .left) (search needs) (search needs) (search needs)
-    (b .byte-at .ensures) (c .before .before .before .byte-at2 .ensures) (c .before .before .byte-at3 .ensures) (c .before .byte-at4 .ensures) (c .read32 .ensures)
+    (b .byte-at .ensures) (c .before .before .before .byte-at2 .ensures) (c .before .before .byte-at3 .ensures) (c .before .byte-at4 .ensures)
+    (c .read32 .ensures)
 
 pub app-present-spec : {M : Type 1} → statement M
 app-present-spec =

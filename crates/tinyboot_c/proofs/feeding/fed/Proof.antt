@@ -2,8 +2,8 @@ use mathlib.Core.List.{List}
 use Prim.Native.Nat.{ℕ}
 use Rattle.device_state.specs.declared.Setup.{Setup}
 use Rattle.device_feed.specs.Feed.{fedOf}
-use Rattle.c_layout.specs.Layout.{setupFrom, stateFrom}
-use Rattle.tinyboot_c.specs.Calls.{AfterFeed, feedCalled}
+use Rattle.c_layout.specs.Layout.{setupFrom}
+use Rattle.tinyboot_c.specs.Calls.{AfterFeed, feedCalled, worldFrom}
 use mathlib.Core.Path.{_≡_, refl, ap, sym, _∙_}
 use lib.ListN.{length}
 use Rattle.device_replies.specs.Answers.{mute}
@@ -25,7 +25,9 @@ returns c =
     let u = c .before .before .before .unsaid .ensures in
     let v = c .before .before .lay-answer .ensures in
     let e = rw (at-if1 .if1 .taken) at (at-fed-byte .fed-byte .ensures) in
-    byte-answered (c .before .before .before .unsaid .result) (told-by (c .before .before .before .unsaid .result) (mute 0) (u .0) (u .1) (u .2) (u .3)) _ (v .0) _ (a .flash .now) (a .meta .now) (a .reply .now) (a .answer .now) _ (v .1 ∙ sym (answer-laid (toldBy (c .before .before .before .unsaid .result)) 1 (a .answer .now) (at-entry .pre .1 .1))) _
+    let said = c .before .before .before .unsaid .result in
+    byte-answered said (told-by said (mute 0) (u .0) (u .1) (u .2) (u .3)) _ (v .0) _ (a .flash .now) (a .meta .now) (a .reply .now) (a .answer .now) _
+    (v .1 ∙ sym (answer-laid (toldBy said) 1 (a .answer .now) (at-entry .pre .1 .1))) _
     (e (a .flash .now) (a .meta .now) (a .reply .now) (a .answer .now) refl refl refl)
 
 fed-piece-requires : tie.Need-fed-piece-requires
@@ -46,7 +48,7 @@ returns-2 c =
     let at-entry = at-fed-byte .before .before .before .before .before .before .before .before .before in
     let a = at-entry .args in
     let left : Setup → List ℕ → AfterFeed =
-    λ s v. feedCalled (fedOf 52 64 s (stateFrom 52 64 v) (a .bytes .now) (a .flash .now) (a .meta .now) (a .reply .now)) (a .answer .now) in
+    λ s v. feedCalled (fedOf 52 64 s (worldFrom 52 64 v (a .flash .now) (a .meta .now)) (a .bytes .now) (a .reply .now)) (a .answer .now) in
     let state : List ℕ = at-fed-byte .fed-byte .last .1 .0 in
     let e : state ≡ a .state .now = rw (at-if1 .if1 .left) at (at-fed-byte .fed-byte .ensures) in
     at-fed-piece .fed-piece .ensures ∙ ap (λ (s : Setup). left s state) (at-setup-from .setup-from .ensures) ∙ ap (left (setupFrom (a .setup .now))) e

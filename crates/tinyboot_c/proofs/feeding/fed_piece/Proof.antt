@@ -5,7 +5,7 @@ use lib.ListN.{length}
 use Rattle.device_replies.specs.Answers.{toldOf}
 use Rattle.device_in_place.proofs.Placed.{on-long}
 use Rattle.device_feed.specs.Feed.{Called, fedOf}
-use Rattle.c_layout.specs.Layout.{stateFrom}
+use Rattle.tinyboot_c.specs.Calls.{worldFrom}
 use Rattle.c_layout.proofs.Answering.{told-by, answer-laid}
 use Rattle.tinyboot_c.proofs.Placing.{fed-placed}
 use borrow.Author.Needs.{needs}
@@ -19,20 +19,21 @@ returns : tie.Need-returns
 returns c =
     let at-lay-numbers = c .before .before .before .before .before .before .before in
     let at-passed = at-lay-numbers .before in
-    let at-feed-on = at-passed .before .before .before .before .before .before .before .before .before in
+    let at-feed-on = at-passed .before .before .before .before .before .before .before .before .before .before in
     let at-numbers-from = at-feed-on .before .before .before .before .before in
     let at-entry = at-numbers-from .before .before .before .before .before .before .before .before in
     let a = at-entry .args in
     let p = at-feed-on .feed-on .result in
     let ls : length (a .state .now) ≡ 136 = at-entry .pre .0 in
     let h : 128 ≤ length (a .state .now) = omega arith in
-    let n = at-numbers-from .numbers-from .ensures in
-    let e = rw (n) at (at-feed-on .feed-on .ensures) in
-    let x : Called = fedOf 52 64 (a .setup) (stateFrom 52 64 (a .state .now)) (a .bytes .now) (a .flash .now) (a .meta .now) (a .reply .now) in
+    let e = rw (at-numbers-from .numbers-from .ensures) at (at-feed-on .feed-on .ensures) in
+    let x : Called = fedOf 52 64 (a .setup) (worldFrom 52 64 (a .state .now) (a .flash .now) (a .meta .now)) (a .bytes .now) (a .reply .now) in
     let u = c .before .before .before .numbers-of .ensures in
     let v = c .before .before .lay-answer .ensures in
-    fed-placed (a .answer .now) p (a .state .now) _ _ _ _ x ls (lay-numbers-requires at-passed (at-lay-numbers .lay-numbers .lifetimes)) (e ∙ sym (on-long _ _ _ _ _ _ _ _ _ _ _ h))
-    _ (told-by _ (toldOf (p .answer)) (u .0) (u .1) (u .2) (u .3)) _ (v .0) _ (at-lay-numbers .lay-numbers .ensures) _ (v .1 ∙ sym (answer-laid _ _ (a .answer .now) (at-entry .pre .1)))
+    fed-placed (a .answer .now) p (a .state .now) _ _ _ _ x ls (lay-numbers-requires at-passed (at-lay-numbers .lay-numbers .lifetimes))
+    (e ∙ sym (on-long _ _ _ _ _ _ _ h))
+    _ (told-by _ (toldOf (p .answer)) (u .0) (u .1) (u .2) (u .3)) _ (v .0) _ (at-lay-numbers .lay-numbers .ensures) _
+    (v .1 ∙ sym (answer-laid _ _ (a .answer .now) (at-entry .pre .1)))
 
 pub fed-piece-spec : {M : Type 1} → statement M
 fed-piece-spec =

@@ -5,7 +5,15 @@ use Rattle.tinyboot_c.proofs.layout.setup_from.Statement.{statement}
 use Rattle.tinyboot_c.proofs.layout.setup_from.Tie as tie
 
 returns : tie.Need-returns
-returns c = rw (c .before .before .before .before .before .before .id-from .ensures, c .before .before .before .before .before .four .ensures, c .before .before .before .before .four2 .ensures, c .before .before .wide .ensures, c .before .two .ensures, c .four3 .ensures) refl
+returns c = rw (
+  c .before .before .before .before .before .before .id-from .ensures,
+  c .before .before .before .before .before .four .ensures,
+  c .before
+      .before .before .before .four2 .ensures,
+  c .before .before .wide .ensures,
+  c .before .two .ensures,
+  c .four3 .ensures,
+) refl
 
 pub setup-from-spec : {M : Type 1} → statement M
 setup-from-spec =

@@ -7,7 +7,8 @@ use Rattle.tinyboot_c.proofs.layout.two.Statement.{statement}
 use Rattle.tinyboot_c.proofs.layout.two.Tie as tie
 
 returns : tie.Need-returns
-returns c = c .read16 .ensures ∙ sym (ap lowFirst (part-two (c .before .before .before .before .args .s .now) (c .before .before .before .before .args .at) (c .before .before .before .before .pre)))
+returns c = c .read16 .ensures ∙ sym (ap lowFirst (part-two (c .before .before .before .before .args .s .now) (c .before .before .before .before .args .at)
+    (c .before .before .before .before .pre)))
 
 pub two-spec : {M : Type 1} → statement M
 two-spec =

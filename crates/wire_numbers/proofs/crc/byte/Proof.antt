@@ -17,9 +17,6 @@ loop-holds : tie.Need-loop-holds Inv-loop μ-loop
 unfolding crcByte
 loop-holds c = (search needs, ap (λ (x : ℕ). shifts 8 (bitXor (c .args .crc) x)) (omega arith))
 
-step-requires : tie.Need-step-requires Inv-loop μ-loop
-step-requires c κs = search needs
-
 add-k : tie.Need-add-k Inv-loop μ-loop
 add-k c = omega arith
 
@@ -43,4 +40,4 @@ returns c = let e : 8 - c .before .loop .k ≡ 0 = omega arith in rw e at (c .be
 pub byte-spec : {M : Type 1} → statement M
 byte-spec =
     tie.close
-    (tie.spec Inv-loop μ-loop loop-holds step-requires add-k loop-less loop-again returns)
+    (tie.spec Inv-loop μ-loop loop-holds (λ c κs. search needs) add-k loop-less loop-again returns)

@@ -15,14 +15,8 @@ Inv-loop crc bytes c₀ i₀ c i = (i ≤ length bytes) × (crcBytes c (drop i b
 abbrev μ-loop : tie.MeasureT-loop
 μ-loop crc bytes c₀ i₀ c i = length bytes - i
 
-loop-holds : tie.Need-loop-holds Inv-loop μ-loop
-loop-holds c = search needs
-
 shared-slice-read-byte : tie.Need-shared-slice-read-byte Inv-loop μ-loop
 shared-slice-read-byte c = omega arith
-
-byte-requires : tie.Need-byte-requires Inv-loop μ-loop
-byte-requires c κs = search needs
 
 add-i : tie.Need-add-i Inv-loop μ-loop
 add-i c = omega arith
@@ -47,4 +41,4 @@ returns c =
 pub crc16-spec : {M : Type 1} → statement M
 crc16-spec =
     tie.close
-    (tie.spec Inv-loop μ-loop loop-holds shared-slice-read-byte byte-requires add-i loop-less loop-again returns)
+    (tie.spec Inv-loop μ-loop (λ c. search needs) shared-slice-read-byte (λ c κs. search needs) add-i loop-less loop-again returns)

@@ -15,31 +15,18 @@ Inv-loop hz i₀ i = (i ≤ 14) × (placeFrom hz i (drop i rates) ≡ hzLookup h
 abbrev μ-loop : tie.MeasureT-loop
 μ-loop hz i₀ i = 14 - i
 
-loop-holds : tie.Need-loop-holds Inv-loop μ-loop
-loop-holds c = search needs
-
-array-copy-out-rate : tie.Need-array-copy-out-rate Inv-loop μ-loop
-array-copy-out-rate c = search needs
-
-hz-requires : tie.Need-hz-requires Inv-loop μ-loop
-hz-requires c κs = search needs
-
 returns : tie.Need-returns Inv-loop μ-loop
 returns c =
     let l = c .before .before .before .before in
-    hit (l .before .args .hz) (l .loop .i) (c .before .hz .result) (c .before .before .before .loop-test .taken) (c .before .hz .ensures) (l .loop .inv .1) (c .if1 .taken)
-
-add-i : tie.Need-add-i Inv-loop μ-loop
-add-i c = search needs
-
-loop-less : tie.Need-loop-less Inv-loop μ-loop
-loop-less c = search needs
+    hit (l .before .args .hz) (l .loop .i) (c .before .hz .result) (c .before .before .before .loop-test .taken) (c .before .hz .ensures) (l .loop .inv .1)
+    (c .if1 .taken)
 
 loop-again : tie.Need-loop-again Inv-loop μ-loop
 loop-again c =
     let l = c .before .before .before .before in (
       omega arith,
-      miss (l .before .args .hz) (l .loop .i) (c .before .hz .result) (c .before .before .before .loop-test .taken) (c .before .hz .ensures) (l .loop .inv .1) (c .if1 .left),
+      miss (l .before .args .hz) (l .loop .i) (c .before .hz .result) (c .before .before .before .loop-test .taken) (c .before .hz .ensures) (l .loop .inv .1)
+          (c .if1 .left),
     )
 
 returns-2 : tie.Need-returns-2 Inv-loop μ-loop
@@ -48,4 +35,5 @@ returns-2 c = sym (gone _ rates _ (c .loop-test .left)) ∙ c .before .loop .inv
 pub from-hz-spec : {M : Type 1} → statement M
 from-hz-spec =
     tie.close
-    (tie.spec Inv-loop μ-loop loop-holds array-copy-out-rate hz-requires returns add-i loop-less loop-again returns-2)
+    (tie.spec Inv-loop μ-loop (λ c. search needs) (λ c. search needs) (λ c κs. search needs) returns (λ c. search needs) (λ c. search needs) loop-again
+    returns-2)
