@@ -1,6 +1,6 @@
 -- The reply of an Info, part by part.
-use Prim.Native.Nat.{ℕ, _-_, _≤_, _<_}
-use mathlib.Core.Path.{_≡_, refl}
+use Prim.Native.Nat.{ℕ, _-_, _%_, _^_, _≤_, _<_}
+use mathlib.Core.Path.{_≡_, refl, ap₂}
 use mathlib.Core.List.{List, [], _∷_, _++_}
 use mathlib.Core.Bool.{Bool, true, false, _||_}
 use native.Mathlib.Omega.{arith}
@@ -9,6 +9,8 @@ use lib.Seq.{length-take-le, take-at, drop-at}
 use lib.Dec.{ltb}
 use borrow.Author.Tests.{lt-ltb, le-ltb}
 use Rattle.laws.specs.Low.{lowFirst, lowBytes}
+use Rattle.laws.proofs.Low.{low-mod}
+use Rattle.wire_frames.specs.Info.{infoLaidBy}
 use Rattle.store_record.specs.Record.{sizeOf, baudOf}
 use Rattle.cmd_info.specs.Info.{appVersion, infoOf, infoLaid}
 
@@ -30,14 +32,29 @@ module _ (capacity : ℕ) (flash meta : List ℕ) (size : ℕ) (e : size ≡ siz
   unfolding appVersion
   version-there l h = rw (← e, le-ltb size 2 l, le-ltb capacity size h) refl
 
--- the eighteen bytes
-pub info-built : (capacity erase version key baud app : ℕ) (flash meta c e v a k p : List ℕ) →
-    c ≡ lowBytes 4 capacity → e ≡ lowBytes 2 erase → v ≡ lowBytes 2 version → app ≡ appVersion capacity flash meta → a ≡ lowBytes 2 app → k ≡ lowBytes 4 key →
-    p ≡ lowBytes 2 52 → baud ≡ baudOf meta →
-    getD c 0 0 ∷ getD c 1 0 ∷ getD c 2 0 ∷ getD c 3 0 ∷ getD e 0 0 ∷ getD e 1 0 ∷ getD v 0 0 ∷ getD v 1 0 ∷ getD a 0 0 ∷ getD a 1 0 ∷ 0 ∷ baud ∷
-    getD k 0 0 ∷ getD k 1 0 ∷ getD k 2 0 ∷ getD k 3 0 ∷ getD p 0 0 ∷ getD p 1 0 ∷ [] ≡ infoOf 52 capacity erase version key flash meta
+-- the eighteen bytes: capacity and erase size are laid by their low bytes
+pub info-built : (capacity erase version key baud app : ℕ) (flash meta new : List ℕ) → app ≡ appVersion capacity flash meta → baud ≡ baudOf meta →
+    new ≡
+    infoLaidBy
+    (record {
+      capacity = capacity % 2 ^ 32;
+      «erase_size» = erase % 2 ^ 16;
+      «boot_version» = version;
+      «app_version» = app;
+      mode = 0;
+      «boot_baud» = baud;
+      compat = key;
+      «max_payload» = 52;
+    }) →
+    new ≡ infoOf 52 capacity erase version key flash meta
 unfolding infoOf
-info-built capacity erase version key baud app flash meta c e v a k p ec ee ev ea el ek ep eb = rw (ec, ee, ev, el, ek, ep, eb, ea) refl
+info-built capacity erase version key baud app flash meta new ea eb e =
+    rw (e, ea, eb)
+    (ap₂
+    (λ (c d : List ℕ).
+    c ++ (d ++ (lowBytes 2 version ++ (lowBytes 2 (appVersion capacity flash meta) ++ (0 ∷ baudOf meta ∷ (lowBytes 4 key ++ lowBytes 2 52))))))
+    (low-mod 4 capacity)
+    (low-mod 2 erase))
 
 -- what a reply leaves of its frame, for who sends it
 pub info-length : (cap capacity erase version key : ℕ) (flash meta : List ℕ) → length (infoOf cap capacity erase version key flash meta) ≡ 18

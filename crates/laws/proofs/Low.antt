@@ -15,6 +15,15 @@ low-read (suc n) v =
     let m : v % (256 ^ n * 256) ≡ (v / 256 % 256 ^ n) * 256 + v % 256 = mod-mul v (one-le-pow n 256 (omega arith)) (omega arith) in
     rw (pow-suc, m, low-read n (v / 256)) (omega arith)
 
+-- a number's lowest bytes are those of its remainder
+pub low-mod : (n v : ℕ) → lowBytes n (v % 256 ^ n) ≡ lowBytes n v
+low-mod zero v = refl
+low-mod (suc n) v =
+    let m : v % (256 ^ n * 256) ≡ (v / 256 % 256 ^ n) * 256 + v % 256 = mod-mul v (one-le-pow n 256 (omega arith)) (omega arith) in
+    let l : ((v / 256 % 256 ^ n) * 256 + v % 256) % 256 ≡ v % 256 = omega arith in
+    let h : ((v / 256 % 256 ^ n) * 256 + v % 256) / 256 ≡ v / 256 % 256 ^ n = omega arith in
+    rw (pow-suc, m, l, h, low-mod n (v / 256)) refl
+
 -- read and written again: the bytes
 pub low-write : (l : List ℕ) → ((i : ℕ) → i < length l → getD l i 0 < 256) → lowBytes (length l) (lowFirst l) ≡ l
 low-write [] h = refl

@@ -81,7 +81,8 @@ module _ (cap : ℕ) (device : Bool) where
 
     -- a whole piece does what one byte does
     pub after-begun : (l q : List ℕ) → readFrame cap device (begun cap f g ++ l) ≡ Begun q → After cap device f g l (store cap f q) (length q) Going
-    after-begun l q e = go (own-of (begun cap f g ++ l) q e) (λ m. ap (readFrame cap device) (sym (append-assoc (begun cap f g) l m)) ∙ cut-begun cap device (begun cap f g ++ l) m q e)
+    after-begun l q e = go (own-of (begun cap f g ++ l) q e) (λ m. ap (readFrame cap device) (sym (append-assoc (begun cap f g) l m)) ∙
+        cut-begun cap device (begun cap f g ++ l) m q e)
       where
         go : {p : List ℕ} → Own cap device p → ((m : List ℕ) → readFrame cap device (begun cap f g ++ (l ++ m)) ≡ readFrame cap device (p ++ m)) →
             After cap device f g l (store cap f p) (length p) Going
@@ -127,7 +128,8 @@ module _ (cap : ℕ) (device : Bool) (f : List ℕ) (g : ℕ) (w : Well cap devi
       go true x = refl
       go false x = let h : 9 < g = leb-false _ _ x in simp (w .going h, lt-ltb _ _ (w .inside h))
 
-  shifted : (l m : List ℕ) → outOf cap f (length (l ++ m)) (readFrame cap device (begun cap f g ++ m)) ≡ later (length l) (outOf cap f (length m) (readFrame cap device (begun cap f g ++ m)))
+  shifted : (l m : List ℕ) → outOf cap f (length (l ++ m)) (readFrame cap device (begun cap f g ++ m)) ≡
+      later (length l) (outOf cap f (length m) (readFrame cap device (begun cap f g ++ m)))
   shifted l m = go (readFrame cap device (begun cap f g ++ m)) refl
     where
       go : (o : Outcome) → readFrame cap device (begun cap f g ++ m) ≡ o → outOf cap f (length (l ++ m)) o ≡ later (length l) (outOf cap f (length m) o)
@@ -150,7 +152,8 @@ module _ (cap : ℕ) (device : Bool) (f : List ℕ) (g : ℕ) (whole : length f 
   unfolding readOf
   cut-stopped h = go (wellOf cap device f g) refl
     where
-      on : (o : Outcome) → wellOf cap device f g ≡ true → readFrame cap device (begun cap f g ++ l) ≡ o → readOf cap device f g (l ++ m) ≡ readOf cap device f g l
+      on : (o : Outcome) → wellOf cap device f g ≡ true → readFrame cap device (begun cap f g ++ l) ≡ o →
+          readOf cap device f g (l ++ m) ≡ readOf cap device f g l
       on (Begun q) t e = absurd (h (rw (t, e) refl))
       on (Ended k q r) t e =
           let x : readFrame cap device (begun cap f g ++ (l ++ m)) ≡ Ended k q (r ++ m) =

@@ -124,7 +124,8 @@ module _ (cap : ℕ) (device : Bool) where
       open-to true = refl
       open-to false = refl
 
-      go : (u : Hunt) → hunt false l ≡ u → fromHunt cap device u ≡ Begun q → fromHunt cap device (hunt false (l ++ m)) ≡ fromHunt cap device (hunt false (q ++ m))
+      go : (u : Hunt) → hunt false l ≡ u → fromHunt cap device u ≡ Begun q →
+          fromHunt cap device (hunt false (l ++ m)) ≡ fromHunt cap device (hunt false (q ++ m))
       go (Open p) w e' =
           let s : q ≡ pick p (0xAA ∷ []) [] = cc in
           rw (hunt-open false p l m w, s) (open-to p)

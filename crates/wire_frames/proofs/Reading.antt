@@ -55,7 +55,8 @@ module _ (cap : ℕ) (device : Bool) where
       no false k w = cc
 
       go : (t : Bool) → ltb cap (lenOf f) ≡ t → lenOf f ≤ cap
-      go true w = let z : _≡_ {A = ℕ} 0 1 = no (ltb 5 (getD f 2 0) || ltb 7 (getD f 3 0)) (pick (overhears device (getD f 3 0)) Kind.Overheard Kind.PayloadOverflow) (simp w at e) in omega arith
+      go true w = let z : _≡_ {A = ℕ} 0 1 = no (ltb 5 (getD f 2 0) || ltb 7 (getD f 3 0))
+          (pick (overhears device (getD f 3 0)) Kind.Overheard Kind.PayloadOverflow) (simp w at e) in omega arith
       go false w = ltb-false _ _ w
 
   pub read-sync : (p m l : List ℕ) → p ≡ 0xAA ∷ 0x55 ∷ m → readFrame cap device (p ++ l) ≡ started cap device (p ++ l)
@@ -110,7 +111,8 @@ module _ (cap : ℕ) (device : Bool) where
           l : length f ≤ 12 + lenOf (f ++ x)
           l = ⊎-elim (λ (u : length f < 10). omega arith) (λ (p : Past f). simp (size-append cap device f x (p .long)) (omega arith)) o
 
-          last : (t : Bool) → pick t (Begun (f ++ x)) (Ended (checked device (f ++ x)) (take (12 + lenOf (f ++ x)) (f ++ x)) (drop (12 + lenOf (f ++ x)) (f ++ x))) ≡ Ended k g r → Split f x g r
+          last : (t : Bool) → pick t (Begun (f ++ x)) (Ended (checked device (f ++ x)) (take (12 + lenOf (f ++ x)) (f ++ x))
+              (drop (12 + lenOf (f ++ x)) (f ++ x))) ≡ Ended k g r → Split f x g r
           last true y = let z : _≡_ {A = ℕ} 0 1 = cc in absurd (omega arith)
           last false y = same _ _ (checked device (f ++ x)) y (split-at f x (12 + lenOf (f ++ x)) l)
 

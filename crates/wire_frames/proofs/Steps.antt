@@ -227,7 +227,15 @@ module _ (cap : ℕ) (device : Bool) (f : List ℕ) (g : ℕ) (w : Well cap devi
         let i : lenOf (p ++ l) ≡ lenOf f = size-append cap device p l (omega arith) ∙ z in
         let j : verdictOf cap device (p ++ l) ≡ Going = verdict-append cap device p l (omega arith) ∙ v in
         let c : checked device (p ++ l) ≡ checked device p = checked-append cap device p l (omega arith) (omega arith) in
-        rw (le-ltb (length (p ++ l)) 10 (omega arith), j, le-ltb (length (p ++ l)) (12 + lenOf (p ++ l)) (omega arith), c, i, take-at p l (12 + lenOf f) n, drop-at p l (12 + lenOf f) n) refl)
+        rw (
+          le-ltb (length (p ++ l)) 10 (omega arith),
+          j,
+          le-ltb (length (p ++ l)) (12 + lenOf (p ++ l)) (omega arith),
+          c,
+          i,
+          take-at p l (12 + lenOf f) n,
+          drop-at p l (12 + lenOf f) n,
+        ) refl)
         (set-high cap f (w .whole) b ∙ sym (store-crc cap f (w .whole) x s))
 
   -- no data are wanted: short of the header's end, or past the data
@@ -235,7 +243,8 @@ module _ (cap : ℕ) (device : Bool) (f : List ℕ) (g : ℕ) (w : Well cap devi
   wanted-none e h = let z : 10 + lenOf f - g ≡ 0 = rw (le-ltb g 10 h) at e in omega arith
 
   -- as many data bytes as are wanted and at hand
-  module _ (l : List ℕ) (i m : ℕ) (a : i < length l) (z : wantedOf f g ≡ 0 → ⊥) (e : m ≡ pick (leb (wantedOf f g) (length l - i)) (wantedOf f g) (length l - i)) where
+  module _ (l : List ℕ) (i m : ℕ) (a : i < length l) (z : wantedOf f g ≡ 0 → ⊥)
+      (e : m ≡ pick (leb (wantedOf f g) (length l - i)) (wantedOf f g) (length l - i)) where
     past-header : 10 ≤ g
     past-header = go (ltb g 10) refl
       where
@@ -289,7 +298,8 @@ module _ (cap : ℕ) (device : Bool) (f : List ℕ) (g : ℕ) (w : Well cap devi
           let s : lenOf f ≤ cap = small h in
           let z : lenOf (take g f) ≡ lenOf f = size-take cap device g f h (omega (arith, w .whole)) in
           still-part (omega arith) u (omega arith)
-          (rw append-nil at (still-open (take g f ++ []) (take (g - 2) (drop 2 f) ++ []) (sync-part (omega arith) [] g (omega arith)) (inr (part-past h [] g h (omega arith) (omega arith)))))
+          (rw append-nil at (still-open (take g f ++ []) (take (g - 2) (drop 2 f) ++ []) (sync-part (omega arith) [] g (omega arith))
+          (inr (part-past h [] g h (omega arith) (omega arith)))))
       d false e h =
           let u : 10 + lenOf f < g = leb-false _ _ e in
           let s : lenOf f ≤ cap = small h in
@@ -298,7 +308,8 @@ module _ (cap : ℕ) (device : Bool) (f : List ℕ) (g : ℕ) (w : Well cap devi
           let k : ℕ = 10 + lenOf f in
           still (take k f ++ x) (simp e) (simp (length-append, part-length h k (omega arith)) (omega arith))
           (store-crc cap f (w .whole) x s ∙ sym (parts cap f (w .whole)))
-          (still-open (take k f ++ x) (take (k - 2) (drop 2 f) ++ x) (sync-part (omega arith) x k (omega arith)) (inr (part-past h x k (omega arith) (omega arith) (omega arith))))
+          (still-open (take k f ++ x) (take (k - 2) (drop 2 f) ++ x) (sync-part (omega arith) x k (omega arith))
+          (inr (part-past h x k (omega arith) (omega arith) (omega arith))))
 
       b : (t : Bool) → ltb g 10 ≡ t → 2 ≤ g → Kept cap device f g
       b true e h =

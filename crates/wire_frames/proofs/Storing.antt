@@ -172,9 +172,11 @@ module _ (cap : ℕ) (device : Bool) (f : List ℕ) (whole : length f ≡ 12 + c
       let ld : length d ≡ k = length-take-le k p (omega arith) in
       let lo : length (over d a) ≡ 10 + cap = length-append d (drop (length d) a) ∙ rw (length-drop (length d) a) (omega (arith, front cap f whole)) in
       let j : over d a ++ x ≡ d ++ (drop (length d) a ++ x) = append-assoc d (drop (length d) a) x in
-      let z : lenOf (over d a ++ x) ≡ lenOf p = ap lenOf j ∙ size-append cap device d (drop (length d) a ++ x) (omega arith) ∙ size-take cap device k p (omega arith) (o .long) in
+      let z : lenOf (over d a ++ x) ≡ lenOf p = ap lenOf j ∙ size-append cap device d (drop (length d) a ++ x) (omega arith) ∙
+      size-take cap device k p (omega arith) (o .long) in
       let w : verdictOf cap device (over d a ++ x) ≡ Going =
-      ap (verdictOf cap device) j ∙ verdict-append cap device d (drop (length d) a ++ x) (omega arith) ∙ verdict-take cap device k p (omega arith) (o .long) ∙ o .passed in
+      ap (verdictOf cap device) j ∙ verdict-append cap device d (drop (length d) a ++ x) (omega arith) ∙ verdict-take cap device k p (omega arith) (o .long) ∙
+      o .passed in
       let t : take k (over d a ++ x) ≡ d = ap (take k) j ∙ take-at d (drop (length d) a ++ x) k ld in
       let g : getD (over d a ++ x) (10 + cap) 0 ≡ v = getD-at (over d a) v (getD p (11 + lenOf p) (getD f (11 + cap) 0) ∷ []) 0 (10 + cap) lo in
       let i : suc k ≡ length p = omega arith in

@@ -35,10 +35,49 @@ cases =
     record { device = true; bytes = 0xaa ∷ 0x55 ∷ 2 ∷ 1 ∷ 0 ∷ 0 ∷ 0 ∷ 0 ∷ 0x35 ∷ 0 ∷ []; taken = 10; said = ended Overheard } ∷
     record { device = false; bytes = 0xaa ∷ 0x55 ∷ 2 ∷ 1 ∷ 0 ∷ 0 ∷ 0 ∷ 0 ∷ 0x35 ∷ 0 ∷ []; taken = 10; said = ended PayloadOverflow } ∷
     record { device = true; bytes = 0xaa ∷ 0x55 ∷ 6 ∷ 1 ∷ 0 ∷ 0 ∷ 0 ∷ 0 ∷ 0 ∷ 0 ∷ []; taken = 10; said = ended Unsupported } ∷
-    record { device = true; bytes = 0xaa ∷ 0x55 ∷ 2 ∷ 0 ∷ 0x40 ∷ 0 ∷ 0 ∷ 0 ∷ 0x34 ∷ 0 ∷ (replicate {A = ℕ} 52 0 ++ (0xbf ∷ 0xc6 ∷ [])); taken = 64; said = ended Good } ∷
+    record {
+      device = true;
+      bytes = 0xaa ∷ 0x55 ∷ 2 ∷ 0 ∷ 0x40 ∷ 0 ∷ 0 ∷ 0 ∷ 0x34 ∷ 0 ∷ (replicate {A = ℕ} 52 0 ++ (0xbf ∷ 0xc6 ∷ []));
+      taken = 64;
+      said =
+          ended Good;
+    } ∷
     record { device = true; bytes = 0xaa ∷ []; taken = 1; said = quiet } ∷
     []
 
 all-held : held cases
 unfolding readOf wellOf begun store hunt started verdictOf overhears checked crcFrom bitsOf bits entered fold
-all-held = ((refl, refl), ((refl, refl), ((refl, refl), ((refl, refl), ((refl, refl), ((refl, refl), ((refl, refl), ((refl, refl), ((refl, refl), ((refl, refl), ((refl, refl), tt)))))))))))
+all-held = (
+  (refl, refl),
+  (
+    (refl, refl),
+    (
+      (refl, refl),
+      (
+        (refl, refl),
+        (
+          (refl, refl),
+          (
+            (refl, refl),
+            (
+              (refl, refl),
+              (
+                (refl, refl),
+                (
+                  (refl, refl),
+                  (
+                    (
+                      refl,
+                      refl,
+                    ),
+                    ((refl, refl), tt),
+                  ),
+                ),
+              ),
+            ),
+          ),
+        ),
+      ),
+    ),
+  ),
+)

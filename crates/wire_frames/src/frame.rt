@@ -8,7 +8,6 @@ ghost use mathlib.Core.Bool.{_&&_, _||_};
 ghost use lib.Dec.{ltb, leb, eqb};
 ghost use Prim.Native.Nat.{_+_};
 ghost use lib.ListN.{length};
-ghost use Rattle.wire_frames.specs.Info.{infoBytes};
 ghost use Rattle.wire_frames.specs.Reading.{overhears, headerOf};
 ghost use Rattle.wire_frames.specs.Stored.{newFrame, framed, goes, wellOf};
 
@@ -19,30 +18,6 @@ pub const DEFAULT_PAYLOAD: usize = 52;
 pub const FRAME: usize = 12 + DEFAULT_PAYLOAD;
 
 pub type FrameBytes = [u8; FRAME];
-
-// What Info replies.
-pub struct InfoData {
-    pub capacity: u32,
-    pub erase_size: u16,
-    pub boot_version: u16,
-    pub app_version: u16,
-    pub mode: u8,
-    pub boot_baud: u8,
-    pub compat: u32,
-    pub max_payload: u16,
-}
-
-impl InfoData {
-    // Bytes on the wire.
-    pub const SIZE: u16 = 18;
-
-    // The constant under a contract: its number is proved, not only written.
-    pub fn wire_len() -> u16
-        ensures { λ r. ⌜ r ≡ infoBytes ⌝ }
-    {
-        Self::SIZE
-    }
-}
 
 // 64 bytes at the offsets of 01 (AA 55, header 2 to 9, data 10 to 61, the received CRC apart at 62 and 63), and how many bytes of a frame have
 // begun: 0 none, 1 an AA, 10 a header. The data area, 10 to 61, outlives the frame.

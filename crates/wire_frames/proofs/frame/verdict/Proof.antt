@@ -23,7 +23,8 @@ long : (c : tie.After-heard) → let a = c .before .before .before .before .args
     headerOf 52 (a .device) (a .cmd) (a .status) (a .len) ≡ Over (pick (c .heard .result) Kind.Overheard Kind.PayloadOverflow)
 long c =
     let a = c .before .before .before .before .args in
-    header-long 52 (a .device) (a .cmd) (a .status) (a .len) (sym (c .before .before .before .strange .ensures) ∙ c .before .before .if1 .left) (c .before .if2 .left)
+    header-long 52 (a .device) (a .cmd) (a .status) (a .len) (sym (c .before .before .before .strange .ensures) ∙ c .before .before .if1 .left)
+    (c .before .if2 .left)
     (c .heard .result) (sym (c .heard .ensures))
 
 returns-3 : tie.Need-returns-3
