@@ -98,7 +98,7 @@ module _ (s : Setup) (w : World) (y : Good 52 64 s w) where
   module _ (x q : List ℕ) (e : readFrame 52 true (p ++ x) ≡ Begun q) where
     -- what a quiet call leaves, and the bytes begun in it
     abbrev pub quieted : World
-    quieted = arrived 52 w (Begun q)
+    quieted = arrived 52 w q (length q)
 
     abbrev f' : List ℕ
     f' = store 52 (ready f) q
@@ -174,7 +174,7 @@ module _ (s : Setup) (w : World) (y : Good 52 64 s w) where
   -- where a frame ends: its bytes are stored, and the rest is acted on
   module _ (x : List ℕ) (k : Kind) (q r : List ℕ) (e : readFrame 52 true (p ++ x) ≡ Ended k q r) where
     abbrev come : World
-    come = arrived 52 w (Ended k q r)
+    come = arrived 52 w q 0
 
     abbrev pub ending : List ℕ → Ending
     ending room = dispatchOf 52 64 s k come room

@@ -5,12 +5,11 @@ use mathlib.Core.List.{List, [], _∷_, _++_}
 use lib.ListN.{length, take, replicate}
 use Rattle.laws.specs.Pick.{if_then_else_}
 use Rattle.wire_frames.specs.Reading.{Outcome, Begun, Ended, readFrame}
-use Rattle.wire_frames.specs.Stored.{begun, ready, outOf}
+use Rattle.wire_frames.specs.Stored.{begun, store, ready}
 use Rattle.device_state.specs.declared.Setup.{Setup}
-use Rattle.device_state.specs.State.{World}
+use Rattle.device_state.specs.State.{World, gotSet, frameSet, numbersSet}
 use Rattle.device_replies.specs.Answers.{Told}
 use Rattle.device_dispatcher.specs.Dispatch.{Ending, dispatchOf}
-use Rattle.device_feed.specs.Feed.{holding}
 
 -- a frame that has ended: what is said of it, and its reply
 pub record Event : Type 0 where
@@ -31,9 +30,9 @@ ends w = record { events = []; left = w }
 abbrev pub first : Event → Story → Story
 first e t = record { events = e ∷ t .events; left = t .left }
 
--- the world once a reading's bytes have come: stored over AA 55, all begun where no frame has ended, and else none
-abbrev pub arrived : ℕ → World → Outcome → World
-arrived cap w o = holding (outOf cap (ready (w .state .frame)) 0 o) w
+-- the world once the bytes q have come: stored over AA 55, and so many of a frame begun
+abbrev pub arrived : ℕ → World → List ℕ → ℕ → World
+arrived cap w q got = numbersSet (gotSet got (w .state .numbers)) (frameSet (store cap (ready (w .state .frame)) q) w)
 
 -- after a frame: a restart ends the stream, else it goes on with the rest
 abbrev pub goesOn : (World → List ℕ → Story) → List ℕ → World → Story
@@ -45,9 +44,9 @@ followed on e = first (eventOf (e .told) (e .room)) (on (e .left))
 
 -- a reading: the stream ends in a frame begun, or a frame has ended and is acted on, with a reply room of its own
 abbrev pub acted : ℕ → ℕ → Setup → World → (World → List ℕ → Story) → Outcome → Story
-acted cap page s w rest (Begun q) = ends (arrived cap w (Begun q))
+acted cap page s w rest (Begun q) = ends (arrived cap w q (length q))
 acted cap page s w rest (Ended k q r) =
-    followed (goesOn rest r) (dispatchOf cap page s k (arrived cap w (Ended k q r)) (replicate {A = ℕ} (12 + cap) 0))
+    followed (goesOn rest r) (dispatchOf cap page s k (arrived cap w q 0) (replicate {A = ℕ} (12 + cap) 0))
 
 -- at most n frames: each takes a byte or more, so as many as there are bytes are enough
 unfoldable pub streamOf : ℕ → ℕ → Setup → ℕ → World → List ℕ → Story
