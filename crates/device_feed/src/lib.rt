@@ -166,13 +166,13 @@ pub fn feed(
     let mut page = state.page;
     let n = state.numbers;
     let r = feed_in(setup, n, &mut f, &mut page, bytes, flash, meta, reply);
-    let left = r.numbers;
+    let after = r.numbers;
     let answer = r.answer;
     Fed {
         state: State {
             frame: f,
             page: page,
-            numbers: left,
+            numbers: after,
         },
         taken: r.taken,
         answer: answer,
