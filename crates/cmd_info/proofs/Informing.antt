@@ -10,7 +10,7 @@ use lib.Dec.{ltb}
 use borrow.Author.Tests.{lt-ltb, le-ltb}
 use Rattle.laws.specs.Low.{lowFirst, lowBytes}
 use Rattle.laws.proofs.Low.{low-mod}
-use Rattle.wire_frames.specs.Info.{infoLaidBy}
+use Rattle.wire_info.specs.Info.{infoLaidBy}
 use Rattle.store_record.specs.Record.{sizeOf, baudOf}
 use Rattle.cmd_info.specs.Info.{appVersion, infoOf, infoLaid}
 

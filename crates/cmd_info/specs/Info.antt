@@ -6,14 +6,14 @@ use lib.ListN.{getD, take, drop}
 use lib.Dec.{ltb}
 use Rattle.laws.specs.Pick.{if_then_else_}
 use Rattle.laws.specs.Low.{lowFirst}
-use Rattle.wire_frames.specs.Info.{infoLaidBy}
+use Rattle.wire_info.specs.Info.{infoLaidBy}
 use Rattle.store_record.specs.Record.{sizeOf, baudOf}
 
 -- the app's version: the two bytes before the stored size, 0xFFFF where there is no such size
 unfoldable pub appVersion : ℕ → List ℕ → List ℕ → ℕ
 appVersion capacity flash meta =
     if ltb (sizeOf meta) 2 || ltb capacity (sizeOf meta) then 0xFFFF else
-    (lowFirst (getD flash (sizeOf meta - 2) 0xFF ∷ getD flash (sizeOf meta - 1) 0xFF ∷ []))
+    lowFirst (getD flash (sizeOf meta - 2) 0xFF ∷ getD flash (sizeOf meta - 1) 0xFF ∷ [])
 
 -- the reply's eighteen bytes, of the device's own numbers; the mode is 0
 unfoldable pub infoOf : ℕ → ℕ → ℕ → ℕ → ℕ → List ℕ → List ℕ → List ℕ

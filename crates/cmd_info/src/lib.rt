@@ -4,7 +4,7 @@ use store_flash::cells::byte_at;
 use store_record::boot_meta_store;
 use wire_frames::frame::DEFAULT_PAYLOAD;
 use wire_frames::frame::FrameBytes;
-use wire_frames::info::InfoData;
+use wire_info::InfoData;
 use wire_numbers::le;
 ghost use mathlib.Core.Path.{_≡_};
 ghost use lib.ListN.{length};

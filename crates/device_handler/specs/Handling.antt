@@ -6,7 +6,7 @@ use lib.ListN.{set}
 use lib.Dec.{eqb}
 use Rattle.laws.specs.Pick.{if_then_else_}
 use Rattle.wire_frames.specs.Fields.{cmdOf, Ok, Unsupported}
-use Rattle.wire_frames.specs.Info.{infoBytes}
+use Rattle.wire_info.specs.Info.{infoBytes}
 use Rattle.cmd_info.specs.Info.{infoOf, infoLaid}
 use Rattle.cmd_erase.specs.Erase.{Erased, eraseOf}
 use Rattle.cmd_write.specs.Write.{Wrote, writeOf}

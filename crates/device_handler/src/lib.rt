@@ -5,7 +5,7 @@ use device_state::Numbers;
 use device_state::Setup;
 use store_flash::storage::Page;
 use wire_frames::frame::FrameBytes;
-use wire_frames::info::InfoData;
+use wire_info::InfoData;
 use wire_numbers::Cmd;
 use wire_numbers::CmdFound;
 use wire_numbers::Status;

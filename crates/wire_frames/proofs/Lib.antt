@@ -7,4 +7,3 @@ pub mod Anywhere
 pub mod Vectors
 pub mod Parts
 pub mod Samples
-pub mod Told

@@ -2,5 +2,4 @@
 // they are made of.
 pub mod fields;
 pub mod frame;
-pub mod info;
 pub mod sync;

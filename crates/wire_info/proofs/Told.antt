@@ -7,8 +7,8 @@ use lib.ListN.{length, getD}
 use lib.Seq.{drop-cons}
 use Rattle.laws.specs.Low.{lowFirst, lowBytes}
 use Rattle.wire_numbers.proofs.Bytes.{read-back}
-use Rattle.wire_frames.specs.Info.{infoLaidBy, numberAt, infoRead}
-use Rattle.wire_frames.specs.declared.info.InfoData.{InfoData}
+use Rattle.wire_info.specs.Info.{infoLaidBy, numberAt, infoRead}
+use Rattle.wire_info.specs.declared.InfoData.{InfoData}
 
 -- the eighteen bytes, of each number's
 pub laid : (d : InfoData) (c e v a k p : List ℕ) → c ≡ lowBytes 4 (d .capacity) → e ≡ lowBytes 2 (d .«erase_size») → v ≡ lowBytes 2 (d .«boot_version») →

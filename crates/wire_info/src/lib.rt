@@ -2,7 +2,7 @@
 
 use wire_numbers::le;
 ghost use mathlib.Core.Path.{_≡_};
-ghost use Rattle.wire_frames.specs.Info.{infoBytes, infoLaidBy, infoRead};
+ghost use Rattle.wire_info.specs.Info.{infoBytes, infoLaidBy, infoRead};
 
 // What Info replies.
 pub struct InfoData {

@@ -3,7 +3,7 @@ use Prim.Native.Nat.{ℕ, _+_}
 use mathlib.Core.List.{List, [], _∷_, _++_}
 use lib.ListN.{getD, take, drop}
 use Rattle.laws.specs.Low.{lowFirst, lowBytes}
-use Rattle.wire_frames.specs.declared.info.InfoData.{InfoData}
+use Rattle.wire_info.specs.declared.InfoData.{InfoData}
 
 -- 01, Commands, Info: capacity, erase size, boot version, app version, mode, baud, key, payload capacity, in bytes
 abbrev pub infoBytes : ℕ

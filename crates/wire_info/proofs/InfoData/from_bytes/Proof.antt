@@ -1,7 +1,7 @@
-use Rattle.wire_frames.proofs.Told.{read}
+use Rattle.wire_info.proofs.Told.{read}
 use borrow.Author.Needs.{needs}
-use Rattle.wire_frames.proofs.info.InfoData.from_bytes.Statement.{statement}
-use Rattle.wire_frames.proofs.info.InfoData.from_bytes.Tie as tie
+use Rattle.wire_info.proofs.InfoData.from_bytes.Statement.{statement}
+use Rattle.wire_info.proofs.InfoData.from_bytes.Tie as tie
 
 returns : tie.Need-returns
 returns c =

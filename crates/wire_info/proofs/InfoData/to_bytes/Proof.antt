@@ -1,7 +1,7 @@
-use Rattle.wire_frames.proofs.Told.{laid}
+use Rattle.wire_info.proofs.Told.{laid}
 use borrow.Author.Needs.{needs}
-use Rattle.wire_frames.proofs.info.InfoData.to_bytes.Statement.{statement}
-use Rattle.wire_frames.proofs.info.InfoData.to_bytes.Tie as tie
+use Rattle.wire_info.proofs.InfoData.to_bytes.Statement.{statement}
+use Rattle.wire_info.proofs.InfoData.to_bytes.Tie as tie
 
 returns : tie.Need-returns
 returns c =
