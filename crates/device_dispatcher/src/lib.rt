@@ -1,6 +1,5 @@
 // Translated from tinyboot, lib/core/src/protocol.rs (MIT OR Apache-2.0); changed: what the blocking dispatcher does to its platform is done to lent
-// arrays; the
-// reply is written into a lent room, the wait and the restart are answers.
+// arrays; the reply is written into a lent room, the wait and the restart are answers.
 
 use cmd_select::MAX_UID_LEN;
 use cmd_select::Selected;

@@ -1,6 +1,5 @@
 -- A call of the feed (01, What a call says). With p the bytes of the frame begun in the state, all of it follows from the reading of p and the piece. `cap`
--- is the
--- payload capacity, `page` the page size.
+-- is the payload capacity, `page` the page size.
 use Prim.Native.Nat.{ℕ}
 use mathlib.Core.Bool.{true}
 use mathlib.Core.List.{List, _++_}
@@ -38,7 +37,7 @@ endedBy taken e = record { told = e .told; taken = taken; left = e .left; room =
 abbrev pub refusedBy : ℕ → World → List ℕ → Called
 refusedBy number w room = record { told = mute number; taken = 0; left = w; room = room }
 
--- what the reader says, case by case
+-- what the reader says, case by case; what is no true beginning has been refused before it is read
 abbrev pub afterSaid : Said → ℕ → ℕ → Setup → World → List ℕ → Read → Called
 afterSaid quiet cap page s w room r = quietBy r w room
 afterSaid (ended kind) cap page s w room r = endedBy (r .taken) (dispatchOf cap page s kind (holding r w) room)

@@ -251,8 +251,7 @@ fn clear(
 }
 
 // A call on one byte where that byte is only stored, and whether it is: else nothing is done, and `feed_on` is to be called. Of the numbers only `got`
-// moves on,
-// by 1. Of the setup it takes what it tests, so that no id is copied for a byte.
+// moves on, by 1. Of the setup it takes what it tests, so that no id is copied for a byte.
 pub fn byte_on(
     erase: usize,
     capacity: usize,

@@ -1,6 +1,5 @@
 // The answers of a call, and the reply that two of them tell of. Translated from tinyboot, lib/core/src/protocol.rs (MIT OR Apache-2.0); changed: a reply
-// is written
-// into a lent room, the wait and the restart are answers.
+// is written into a lent room, the wait and the restart are answers.
 
 use wire_frames::frame::FrameBytes;
 use wire_numbers::ResetFlags;

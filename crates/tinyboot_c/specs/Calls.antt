@@ -1,6 +1,5 @@
 -- What the calls of the C interface leave (include/tinyboot.h, Calls). The order of the refusals: a buffer that is no setup's (10), one that is no state's
--- (11),
--- then those of the feed or of the start in their own order; too little room for an answer counts as no room (14).
+-- (11), then those of the feed or of the start in their own order; too little room for an answer counts as no room (14).
 use Prim.Native.Nat.{ℕ}
 use mathlib.Core.Bool.{not}
 use mathlib.Core.List.{List}

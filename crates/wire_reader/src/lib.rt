@@ -1,6 +1,5 @@
 // The reader: takes the bytes of the wire into a frame, and stops where the frame ends. Translated from tinyboot, lib/protocol/src/frame.rs (MIT OR
-// Apache-2.0);
-// changed: the blocking reader is a feed, which is handed the bytes as they come and goes on where it stopped.
+// Apache-2.0); changed: the blocking reader is a feed, which is handed the bytes as they come and goes on where it stopped.
 
 use wire_frames::frame;
 use wire_frames::frame::End;
