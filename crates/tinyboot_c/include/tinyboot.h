@@ -1,7 +1,8 @@
 /* The device side of tinyboot as a static library: libtinyboot_c.a, which `rt staticlib tinyboot_c` writes.
  *
  * The archive is for x86-64 and keeps nothing between calls: all that a device is stands in the caller's buffers. The flash is an array in memory, not a chip's
- * flash; an erase and a write change the array. The library wants memcpy, memmove and memset of the C library, and nothing else.
+ * flash; an erase and a write change the array. The library wants memcpy, memmove and memset of the C library, and nothing else. docs/WIRE.md has the frames,
+ * the statuses, what an image is and a whole update; docs/C.md is the page to read first.
  *
  * What is proved of each call is the definition of its name in ../specs/Calls.antt (tinyboot_feed: cFed, tinyboot_start: cStarted; tinyboot_new_state: cNew in c_start),
  * with the layouts of ../../c_layout/specs/Layout.antt. It is proved of buffers as slices, so it holds where the caller keeps to this:
