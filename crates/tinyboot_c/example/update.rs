@@ -3,7 +3,6 @@
 
 extern "C" {
     fn tinyboot_state_size() -> usize;
-    fn tinyboot_new_state(state: *mut u8, state_len: usize) -> u8;
     #[rustfmt::skip]
     fn tinyboot_feed(
         setup: *const u8, setup_len: usize, state: *mut u8, state_len: usize, bytes: *const u8, bytes_len: usize, flash: *mut u8, flash_len: usize,
@@ -52,17 +51,18 @@ struct Device {
 }
 
 impl Device {
-    /// A device with an erased flash and record; no id.
+    /// A device with an erased flash and record, powered on: its first start, which asks for the app, stays in Service. No id.
     fn new(erase_size: u32, capacity: u32, version: u16, key: u32) -> Device {
         let mut setup = [0; 31];
         setup[0..4].copy_from_slice(&erase_size.to_le_bytes());
         setup[4..8].copy_from_slice(&capacity.to_le_bytes());
         setup[25..27].copy_from_slice(&version.to_le_bytes());
         setup[27..31].copy_from_slice(&key.to_le_bytes());
-        let mut state = [0; 136];
-        assert_eq!(unsafe { tinyboot_state_size() }, state.len());
-        assert_eq!(unsafe { tinyboot_new_state(state.as_mut_ptr(), state.len()) }, 0);
-        Device { setup, state, flash: vec![0xFF; capacity as usize], record: [0xFF; 12], reply: [0; 64] }
+        let mut device = Device { setup, state: [0; 136], flash: vec![0xFF; capacity as usize], record: [0xFF; 12], reply: [0; 64] };
+        assert_eq!(unsafe { tinyboot_state_size() }, device.state.len());
+        let started = device.start(0);
+        assert_eq!((started.number, started.mode()), (0, "service"));
+        device
     }
 
     #[rustfmt::skip]

@@ -29,20 +29,29 @@
  * fewer than 16 bytes is left as it is and counts as no room (14, after 10 to 13).
  *
  * What the caller owes besides:
+ *   - at power-on tinyboot_start comes first: it decides whether the app is run, and gives the first state. tinyboot_new_state decides nothing, and nothing shows
+ *     that the start was forgotten: a state of zeros, never started, is accepted as open, with a run of Writes under way that goes on at address 0;
  *   - bytes that were not taken are handed in again, before any others;
  *   - a reply is sent after the answer's wait, in byte-times of ten bits;
  *   - after 3 the reply is sent, then tinyboot_start is called with the answer's mode. Until then a feed is refused with 15.
  *
- * A receive loop, as in ../example/loop.c, with a buffer `in` of at most 255 bytes, so that one byte says how many were taken:
+ * From power-on, as in ../example/loop.c, with arrays for the buffers:
  *
+ *     uint8_t mode = 0, said;                                // power-on asks for the app
  *     size_t n = 0;
  *     for (;;) {
- *         if (n == 0) n = receive(in, sizeof in);
- *         if (tinyboot_feed(setup, 31, state, 136, in, n, flash, flash_len, meta, 12, reply, 64, answer, 16) >= 10) return answer[0];
- *         memmove(in, in + answer[8], n -= answer[8]);
- *         if (answer[0] >= 2) { wait_byte_times(answer[4]); send_bytes(reply, answer[2]); }
- *         if (answer[0] == 3) tinyboot_start(answer[1], setup, 31, state, 136, flash, flash_len, meta, 12, answer, 16);
- *         if (answer[0] == 0 && answer[1] == 0) return 0;      // a start that hands off: run the app
+ *         said = tinyboot_start(mode, setup, sizeof setup, state, sizeof state, flash, sizeof flash, meta, sizeof meta, answer, sizeof answer);
+ *         if (said >= 10) return said;
+ *         if (answer[1] == 0) return 0;                      // handed off: run the app
+ *         do {
+ *             if (n == 0) n = receive(in, sizeof in);        // at most 255 bytes, so that answer[8] is all of `taken`
+ *             said = tinyboot_feed(setup, sizeof setup, state, sizeof state, in, n, flash, sizeof flash, meta, sizeof meta,
+ *                                  reply, sizeof reply, answer, sizeof answer);
+ *             if (said >= 10) return said;
+ *             memmove(in, in + answer[8], n -= answer[8]);
+ *             if (said >= 2) { wait_byte_times(answer[4]); send_bytes(reply, answer[2]); }
+ *         } while (said != 3);
+ *         mode = answer[1];                                  // a restart, in the mode that was asked for
  *     }
  */
 #ifndef TINYBOOT_H
@@ -64,7 +73,8 @@ extern "C" {
 /* How many bytes a state takes: TINYBOOT_STATE_SIZE. */
 size_t tinyboot_state_size(void);
 
-/* An open new state, with no frame begun and no write pending: 0. Where state_len is another: 11, and nothing is altered. */
+/* An open new state, with no frame begun and no write pending, and no decision about the app: for benches. 0; where state_len is another: 11, and nothing is
+ * altered. */
 uint8_t tinyboot_new_state(uint8_t *state, size_t state_len);
 
 /* Takes bytes up to the end of the first frame in them, carries that frame out on the flash and the record, and writes its reply. */
