@@ -5,9 +5,9 @@
 #include <string.h>
 #include "../include/tinyboot.h"
 
-/* erase size 128, capacity 1024, no id, version 0x0840, key 0xA1B2C3D4 */
-static const uint8_t setup[TINYBOOT_SETUP_SIZE] = {[0] = 128, [5] = 4, [25] = 0x40, 0x08, 0xD4, 0xC3, 0xB2, 0xA1};
-static uint8_t state[TINYBOOT_STATE_SIZE], flash[1024], meta[TINYBOOT_META_SIZE];
+#define CAPACITY 1024
+
+static uint8_t setup[TINYBOOT_SETUP_SIZE], state[TINYBOOT_STATE_SIZE], flash[CAPACITY], meta[TINYBOOT_META_SIZE];
 
 /* At least one byte; a board would wait for it. */
 static size_t receive(uint8_t *in, size_t most)
@@ -18,9 +18,9 @@ static size_t receive(uint8_t *in, size_t most)
     return 1;
 }
 
-static void wait_byte_times(unsigned n)
+static void wait_byte_times(uint32_t n)
 {
-    if (n != 0) printf("wait %u\n", n);
+    if (n != 0) printf("wait %u\n", (unsigned)n);
 }
 
 static void send_bytes(const uint8_t *reply, size_t len)
@@ -37,29 +37,33 @@ static uint8_t serve(uint8_t mode)
     size_t n = 0;
     for (;;) {
         said = tinyboot_start(mode, setup, sizeof setup, state, sizeof state, flash, sizeof flash, meta, sizeof meta, answer, sizeof answer);
-        if (said >= 10) return said;
-        if (answer[1] == 0) return 0; /* handed off: run the app */
+        if (said >= TINYBOOT_REFUSED) return said;
+        if (tinyboot_answer_mode(answer) == TINYBOOT_HANDOFF) return 0; /* run the app */
         do {
             if (n == 0) n = receive(in, sizeof in);
-            said = tinyboot_feed(setup, sizeof setup, state, sizeof state, in, n, flash, sizeof flash, meta, sizeof meta, reply, sizeof reply,
-                                 answer, sizeof answer);
-            if (said >= 10) return said;
-            memmove(in, in + answer[8], n -= answer[8]); /* `in` has at most 255 bytes, so one byte says how many were taken */
-            if (said >= 2) {
-                wait_byte_times(answer[4]);
-                send_bytes(reply, answer[2]);
+            said = tinyboot_feed(setup, sizeof setup, state, sizeof state, in, n, flash, sizeof flash, meta, sizeof meta,
+                                 reply, sizeof reply, answer, sizeof answer);
+            if (said >= TINYBOOT_REFUSED) return said;
+            n -= tinyboot_answer_taken(answer);
+            memmove(in, in + tinyboot_answer_taken(answer), n);
+            if (said >= TINYBOOT_REPLY) {
+                wait_byte_times(tinyboot_answer_wait(answer));
+                send_bytes(reply, tinyboot_answer_length(answer));
             }
-        } while (said != 3);
-        mode = answer[1]; /* a restart, in the mode that was asked for */
+        } while (said != TINYBOOT_RESTART);
+        mode = tinyboot_answer_mode(answer); /* a restart, in the mode that was asked for */
     }
 }
 
 int main(void)
 {
-    if (tinyboot_state_size() != sizeof state) return 2;
+    const struct tinyboot_setup numbers = {
+        .erase_size = 128, .capacity = CAPACITY, .version = TINYBOOT_PACK_VERSION(1, 1, 0), .key = 0xA1B2C3D4};
+    if (tinyboot_state_size() != sizeof state) return 2; /* another header's archive */
+    tinyboot_lay_setup(setup, &numbers);
     memset(flash, 0xFF, sizeof flash);
     memset(meta, 0xFF, sizeof meta);
-    uint8_t refused = serve(0); /* power-on asks for the app; a board with a button held down asks for Service, 1 */
+    uint8_t refused = serve(TINYBOOT_HANDOFF); /* what power-on asks for; with a button held down it would be TINYBOOT_SERVICE */
     printf(refused ? "refused %d\n" : "hand-off\n", refused);
     return refused;
 }

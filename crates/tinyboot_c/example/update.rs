@@ -1,6 +1,20 @@
 //! A whole update through the C interface: Info, Erase, Writes of which the last flushes, Verify, Info, Reset, then starts until the trials are used up.
 //! rustc alone builds it (see `run`). It prints its answers in the words of `oracle/`, so that they can be compared with those of the Rust.
 
+// The sizes, numbers and modes of tinyboot.h.
+const SETUP_SIZE: usize = 31;
+const STATE_SIZE: usize = 136;
+const META_SIZE: usize = 12;
+const REPLY_SIZE: usize = 64;
+const ANSWER_SIZE: usize = 16;
+const STARTED: u8 = 0;
+const QUIET: u8 = 0;
+const SILENT: u8 = 1;
+const REPLY: u8 = 2;
+const RESTART: u8 = 3;
+const HANDOFF: u8 = 0;
+const SERVICE: u8 = 1;
+
 extern "C" {
     fn tinyboot_state_size() -> usize;
     #[rustfmt::skip]
@@ -16,7 +30,7 @@ extern "C" {
     fn tinyboot_crc16(crc: u16, bytes: *const u8, bytes_len: usize) -> u16;
 }
 
-/// The 16 bytes of an answer.
+/// What an answer says.
 struct Answer {
     number: u8,
     mode: u8,
@@ -26,7 +40,7 @@ struct Answer {
 }
 
 impl Answer {
-    fn new(b: [u8; 16]) -> Answer {
+    fn new(b: [u8; ANSWER_SIZE]) -> Answer {
         Answer {
             number: b[0],
             mode: b[1],
@@ -43,31 +57,32 @@ impl Answer {
 
 /// A device, with all its buffers. Each is its own allocation or field, so that no two overlap, which is what the calls ask for.
 struct Device {
-    setup: [u8; 31],
-    state: [u8; 136],
+    setup: [u8; SETUP_SIZE],
+    state: [u8; STATE_SIZE],
     flash: Vec<u8>,
-    record: [u8; 12],
-    reply: [u8; 64],
+    record: [u8; META_SIZE],
+    reply: [u8; REPLY_SIZE],
 }
 
 impl Device {
     /// A device with an erased flash and record, powered on: its first start, which asks for the app, stays in Service. No id.
     fn new(erase_size: u32, capacity: u32, version: u16, key: u32) -> Device {
-        let mut setup = [0; 31];
+        let mut setup = [0; SETUP_SIZE];
         setup[0..4].copy_from_slice(&erase_size.to_le_bytes());
         setup[4..8].copy_from_slice(&capacity.to_le_bytes());
         setup[25..27].copy_from_slice(&version.to_le_bytes());
         setup[27..31].copy_from_slice(&key.to_le_bytes());
-        let mut device = Device { setup, state: [0; 136], flash: vec![0xFF; capacity as usize], record: [0xFF; 12], reply: [0; 64] };
+        let flash = vec![0xFF; capacity as usize];
+        let mut device = Device { setup, state: [0; STATE_SIZE], flash, record: [0xFF; META_SIZE], reply: [0; REPLY_SIZE] };
         assert_eq!(unsafe { tinyboot_state_size() }, device.state.len());
-        let started = device.start(0);
-        assert_eq!((started.number, started.mode()), (0, "service"));
+        let started = device.start(HANDOFF);
+        assert_eq!((started.number, started.mode), (STARTED, SERVICE));
         device
     }
 
     #[rustfmt::skip]
     fn feed(&mut self, bytes: &[u8]) -> Answer {
-        let mut answer = [0; 16];
+        let mut answer = [0; ANSWER_SIZE];
         unsafe {
             tinyboot_feed(
                 self.setup.as_ptr(), self.setup.len(), self.state.as_mut_ptr(), self.state.len(), bytes.as_ptr(), bytes.len(),
@@ -80,7 +95,7 @@ impl Device {
 
     #[rustfmt::skip]
     fn start(&mut self, mode: u8) -> Answer {
-        let mut answer = [0; 16];
+        let mut answer = [0; ANSWER_SIZE];
         unsafe {
             tinyboot_start(
                 mode, self.setup.as_ptr(), self.setup.len(), self.state.as_mut_ptr(), self.state.len(), self.flash.as_ptr(), self.flash.len(),
@@ -121,12 +136,12 @@ fn stream(device: &mut Device, bytes: &[u8], piece: usize) {
         let answer = device.feed(&bytes[read..end]);
         read += answer.taken;
         match answer.number {
-            0 => {}
-            1 => println!("silent {read}"),
-            2 | 3 => println!("reply {read} {} {}", answer.wait, hex(&device.reply[..answer.len])),
+            QUIET => {}
+            SILENT => println!("silent {read}"),
+            REPLY | RESTART => println!("reply {read} {} {}", answer.wait, hex(&device.reply[..answer.len])),
             refused => panic!("refused: {refused}"),
         }
-        if answer.number == 3 {
+        if answer.number == RESTART {
             println!("reset {read} {}", answer.mode());
             println!("unread {}", bytes.len() - read);
             let started = device.start(answer.mode);
@@ -138,7 +153,7 @@ fn stream(device: &mut Device, bytes: &[u8], piece: usize) {
 
 fn main() {
     let piece = std::env::args().nth(1).map_or(7, |n| n.parse().expect("bytes in a piece"));
-    let mut device = Device::new(128, 1024, 0x0840, 0xA1B2_C3D4);
+    let mut device = Device::new(128, 1024, 0x0840, 0xA1B2_C3D4); // version 1.1.0
     let app: Vec<u8> = (0..192).map(|i: u32| (3 + 7 * i) as u8).collect();
     let mut sent = frame(0, 0, 0, &[]);
     sent.extend(frame(1, 0, 0, &256u16.to_le_bytes()));
@@ -150,9 +165,9 @@ fn main() {
     sent.extend(frame(0, 0, 0, &[]));
     sent.extend(frame(4, 0, 0, &[]));
     stream(&mut device, &sent, piece);
-    for mode in [0, 0, 0, 0, 0, 0, 0, 0, 1] {
+    for mode in [HANDOFF, HANDOFF, HANDOFF, HANDOFF, HANDOFF, HANDOFF, HANDOFF, HANDOFF, SERVICE] {
         let started = device.start(mode);
-        assert_eq!(started.number, 0);
+        assert_eq!(started.number, STARTED);
         println!("start {}", started.mode());
     }
     stream(&mut device, &frame(0, 0, 0, &[]), piece);

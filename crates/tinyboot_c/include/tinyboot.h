@@ -1,57 +1,46 @@
 /* The device side of tinyboot as a static library: libtinyboot_c.a, which `rt staticlib tinyboot_c` writes.
  *
+ * docs/C.md is the page to read first; docs/WIRE.md has the frames, the statuses, what an image is and a whole update; ../example/loop.c is a module in C.
+ *
  * The archive is for x86-64 and keeps nothing between calls: all that a device is stands in the caller's buffers. The flash is an array in memory, not a chip's
- * flash; an erase and a write change the array. The library wants memcpy, memmove and memset of the C library, and nothing else. docs/WIRE.md has the frames,
- * the statuses, what an image is and a whole update; docs/C.md is the page to read first.
+ * flash; an erase and a write change the array. The library wants memcpy, memmove and memset of the C library, and nothing else.
  *
- * What is proved of each call is the definition of its name in ../specs/Calls.antt (tinyboot_feed: cFed, tinyboot_start: cStarted; tinyboot_new_state: cNew in c_start),
- * with the layouts of ../../c_layout/specs/Layout.antt. It is proved of buffers as slices, so it holds where the caller keeps to this:
- *   - a pointer and a length name that many bytes that the call may read, or read and write where the pointer is not const; no pointer is null, even at length 0;
+ * What is proved of each call is the definition of its name in ../specs/Calls.antt (tinyboot_feed: cFed, tinyboot_start: cStarted) and in c_start
+ * (tinyboot_new_state: cNew), with the layouts of ../../c_layout/specs/Layout.antt. It is proved of buffers as slices, so it holds where the caller keeps to
+ * this:
+ *   - a pointer and a length name that many bytes that the call may read, or read and write where the pointer is not const; no pointer is null, even at
+ *     length 0;
  *   - no buffer that a call writes overlaps another buffer of the same call.
- *
- * Buffers. Numbers of several bytes stand low byte first.
- *   setup, 31 bytes    0 erase size (4)   4 capacity (4)   8 id length (1)   9 id (16)   25 boot version (2)   27 key (4)
- *   state, 136 bytes   0 frame (64)   64 page (64)   128 next (4)   132 got   133 fill   134 selected, 0 or 1   135 closed, 0 or 1
- *   flash              as many bytes as the capacity
- *   meta, 12 bytes     the record of the boot, which outlives a restart
- *   reply              at least 64 bytes
- *   answer             at least 16 bytes: 0 number   1 mode, 0 hand-off, 1 Service   2 reply length (2)   4 wait (4)   8 taken (8); more are left alone
- *
- * Calls. A result is the answer's number:
- *   0 the bytes are taken and no frame has ended      10 no setup: another length, or numbers that no device has
- *   1 a frame has ended, and there is no reply        11 no state: another length, a flag above 1, or numbers that no device comes to
- *   2 a frame has ended: send the reply               12 the flash is not as long as the capacity
- *   3 send the reply, then call tinyboot_start        13 the record is not 12 bytes
- *     with the answer's mode                          14 too little room for a reply, or for an answer
- *                                                     15 closed: a restart is due, or the app has been handed to
- * From 10 on the call is refused, and nothing is altered but the answer: its number, mode 1, and 0 for the rest. Of several refusals the result is the first of:
- * another length of the setup (10), another length or flag of the state (11), then those of the feed or of the start in the order of their numbers. An answer of
- * fewer than 16 bytes is left as it is and counts as no room (14, after 10 to 13).
+ * The functions marked `static inline` are C and not proved; they only lay and read bytes at the places below.
  *
  * What the caller owes besides:
- *   - at power-on tinyboot_start comes first: it decides whether the app is run, and gives the first state. tinyboot_new_state decides nothing, and nothing shows
- *     that the start was forgotten: a state of zeros, never started, is accepted as open, with a run of Writes under way that goes on at address 0;
+ *   - at power-on tinyboot_start comes first: it decides whether the app is run, and gives the first state. tinyboot_new_state decides nothing, and nothing
+ *     shows that the start was forgotten: a state of zeros, never started, is accepted as open, with a run of Writes under way that goes on at address 0;
  *   - bytes that were not taken are handed in again, before any others;
  *   - a reply is sent after the answer's wait, in byte-times of ten bits;
- *   - after 3 the reply is sent, then tinyboot_start is called with the answer's mode. Until then a feed is refused with 15.
+ *   - after TINYBOOT_RESTART the reply is sent, then tinyboot_start is called with the answer's mode. Until then a feed is refused with TINYBOOT_CLOSED.
  *
  * From power-on, as in ../example/loop.c, with arrays for the buffers:
  *
- *     uint8_t mode = 0, said;                                // power-on asks for the app
+ *     uint8_t mode = TINYBOOT_HANDOFF, said;                 // power-on asks for the app
  *     size_t n = 0;
  *     for (;;) {
  *         said = tinyboot_start(mode, setup, sizeof setup, state, sizeof state, flash, sizeof flash, meta, sizeof meta, answer, sizeof answer);
- *         if (said >= 10) return said;
- *         if (answer[1] == 0) return 0;                      // handed off: run the app
+ *         if (said >= TINYBOOT_REFUSED) return said;
+ *         if (tinyboot_answer_mode(answer) == TINYBOOT_HANDOFF) return 0; // run the app
  *         do {
- *             if (n == 0) n = receive(in, sizeof in);        // at most 255 bytes, so that answer[8] is all of `taken`
+ *             if (n == 0) n = receive(in, sizeof in);
  *             said = tinyboot_feed(setup, sizeof setup, state, sizeof state, in, n, flash, sizeof flash, meta, sizeof meta,
  *                                  reply, sizeof reply, answer, sizeof answer);
- *             if (said >= 10) return said;
- *             memmove(in, in + answer[8], n -= answer[8]);
- *             if (said >= 2) { wait_byte_times(answer[4]); send_bytes(reply, answer[2]); }
- *         } while (said != 3);
- *         mode = answer[1];                                  // a restart, in the mode that was asked for
+ *             if (said >= TINYBOOT_REFUSED) return said;
+ *             n -= tinyboot_answer_taken(answer);
+ *             memmove(in, in + tinyboot_answer_taken(answer), n);
+ *             if (said >= TINYBOOT_REPLY) {
+ *                 wait_byte_times(tinyboot_answer_wait(answer));
+ *                 send_bytes(reply, tinyboot_answer_length(answer));
+ *             }
+ *         } while (said != TINYBOOT_RESTART);
+ *         mode = tinyboot_answer_mode(answer);               // a restart, in the mode that was asked for
  *     }
  */
 #ifndef TINYBOOT_H
@@ -60,32 +49,178 @@
 #include <stddef.h>
 #include <stdint.h>
 
+#ifdef __cplusplus
+extern "C" {
+#endif
+
+/* The version of this interface. While the major one is 0, a change of a layout or a number raises the minor one. */
+#define TINYBOOT_VERSION 0x00000001
+#define TINYBOOT_VERSION_MAJOR (0xffff & (TINYBOOT_VERSION >> 16))
+#define TINYBOOT_VERSION_MINOR (0xffff & (TINYBOOT_VERSION >> 0))
+
+/* Buffers. How many bytes each has; their layouts stand below, numbers of several bytes with the low byte first. The flash has as many bytes as the capacity;
+ * reply and answer may have more, and what is more is left alone. */
 #define TINYBOOT_SETUP_SIZE 31
 #define TINYBOOT_STATE_SIZE 136
 #define TINYBOOT_META_SIZE 12
 #define TINYBOOT_REPLY_SIZE 64
 #define TINYBOOT_ANSWER_SIZE 16
 
-#ifdef __cplusplus
-extern "C" {
-#endif
+/* Sizes and limits of a device. */
+#define TINYBOOT_PAGE_SIZE 64
+#define TINYBOOT_PAYLOAD_SIZE 52
+#define TINYBOOT_ID_SIZE 16
+#define TINYBOOT_ERASE_SIZE_MAX 32768
+#define TINYBOOT_CAPACITY_MAX 65536
 
-/* How many bytes a state takes: TINYBOOT_STATE_SIZE. */
+/* A module with this key takes every image. */
+#define TINYBOOT_NO_KEY 0xFFFFFFFF
+
+/* A version as on the wire and in an image: at most 31, 31 and 63. */
+#define TINYBOOT_PACK_VERSION(major, minor, patch) \
+    ((uint16_t)((((uint32_t)(major) << 11) | ((uint32_t)(minor) << 6) | (uint32_t)(patch)) & 0xFFFF))
+
+/* Calls. What each says, as its result and as the answer's number. From TINYBOOT_REFUSED on the call is refused, and nothing is altered but the answer: its
+ * number, mode TINYBOOT_SERVICE, and 0 for the rest. Of several refusals it is the first of: another length of the setup, another length or flag of the state,
+ * then those of the feed or of the start in the order of their numbers. An answer of too few bytes is left as it is and counts as no room. */
+enum tinyboot_number {
+    TINYBOOT_STARTED = 0,     /* a start: its mode is what was decided */
+    TINYBOOT_QUIET = 0,       /* a feed: all bytes are taken, and no frame has ended */
+    TINYBOOT_SILENT = 1,      /* a frame has ended, and there is no reply */
+    TINYBOOT_REPLY = 2,       /* a frame has ended: send the reply */
+    TINYBOOT_RESTART = 3,     /* send the reply, then call tinyboot_start with the answer's mode */
+    TINYBOOT_REFUSED = 10,    /* this and all above are refusals */
+    TINYBOOT_BAD_SETUP = 10,  /* another length, or a number outside its limits (struct tinyboot_setup) */
+    TINYBOOT_BAD_STATE = 11,  /* another length, a flag above 1, or numbers that no device comes to */
+    TINYBOOT_BAD_FLASH = 12,  /* not as long as the capacity */
+    TINYBOOT_BAD_RECORD = 13, /* not 12 bytes */
+    TINYBOOT_NO_ROOM = 14,    /* too little for a reply, or for an answer */
+    TINYBOOT_CLOSED = 15      /* a restart is due, or the app has been handed to: call tinyboot_start */
+};
+
+/* What a start asks for, and what one has decided. Of a feed's answers TINYBOOT_RESTART alone can have TINYBOOT_HANDOFF: all others, TINYBOOT_QUIET too, have
+ * TINYBOOT_SERVICE. */
+enum tinyboot_mode {
+    TINYBOOT_HANDOFF = 0, /* the app */
+    TINYBOOT_SERVICE = 1  /* the bootloader */
+};
+
+/* The record, `meta`, which outlives a restart: where its numbers stand, low byte first, and what its state byte may be. */
+enum tinyboot_meta {
+    TINYBOOT_META_AT_STATE = 0,
+    TINYBOOT_META_AT_TRIALS = 1,     /* as many starts left as its longest run of ones is long */
+    TINYBOOT_META_AT_CHECKSUM = 2,   /* 2 bytes; 0xFFFF: none */
+    TINYBOOT_META_AT_IMAGE_SIZE = 4, /* 4 bytes */
+    TINYBOOT_META_AT_BAUD = 8,       /* a rate's index, docs/WIRE.md; 14 and above: the firmware's own */
+    TINYBOOT_META_AT_RESERVED = 9    /* 3 bytes, kept */
+};
+enum tinyboot_state_byte { TINYBOOT_IDLE = 0xFF, TINYBOOT_UPDATING = 0x7F, TINYBOOT_VALIDATING = 0x3F };
+
+/* A frame: where its fields stand, its commands, their flags, and its statuses (docs/WIRE.md). */
+enum tinyboot_frame {
+    TINYBOOT_FRAME_AT_COMMAND = 2,
+    TINYBOOT_FRAME_AT_STATUS = 3,
+    TINYBOOT_FRAME_AT_ADDRESS = 4, /* 3 bytes */
+    TINYBOOT_FRAME_AT_FLAGS = 7,
+    TINYBOOT_FRAME_AT_LENGTH = 8, /* 2 bytes */
+    TINYBOOT_FRAME_AT_DATA = 10
+};
+enum tinyboot_command {
+    TINYBOOT_CMD_INFO = 0,
+    TINYBOOT_CMD_ERASE = 1,
+    TINYBOOT_CMD_WRITE = 2,
+    TINYBOOT_CMD_VERIFY = 3,
+    TINYBOOT_CMD_RESET = 4,
+    TINYBOOT_CMD_SELECT = 5
+};
+enum tinyboot_flags {
+    TINYBOOT_RESET_BOOTLOADER = 0x01, /* Reset: stay in the bootloader */
+    TINYBOOT_RESET_BAUD = 0x02,       /* Reset: the low address byte is a rate's index, to be stored */
+    TINYBOOT_WRITE_FLUSH = 0x80       /* Write: the last of its run */
+};
+enum tinyboot_status {
+    TINYBOOT_STATUS_REQUEST = 0,
+    TINYBOOT_STATUS_OK = 1,
+    TINYBOOT_STATUS_WRITE_ERROR = 2,
+    TINYBOOT_STATUS_CRC_MISMATCH = 3,
+    TINYBOOT_STATUS_ADDR_OUT_OF_BOUNDS = 4,
+    TINYBOOT_STATUS_UNSUPPORTED = 5,
+    TINYBOOT_STATUS_PAYLOAD_OVERFLOW = 6,
+    TINYBOOT_STATUS_INCOMPATIBLE = 7
+};
+
+/* A number of so many bytes, at most 4, low byte first: laid, and read. */
+static inline void tinyboot_put(uint8_t *to, size_t bytes, uint32_t number)
+{
+    size_t i;
+    for (i = 0; i < bytes; i++) to[i] = (uint8_t)(number >> (8 * i) & 0xFF);
+}
+
+static inline uint32_t tinyboot_get(const uint8_t *from, size_t bytes)
+{
+    uint32_t number = 0;
+    while (bytes-- > 0) number = number << 8 | from[bytes];
+    return number;
+}
+
+/* The numbers of a setup, with their limits. A call refuses others with TINYBOOT_BAD_SETUP. Set all to 0 first (named initialisers do), so that what a later
+ * version adds is 0. */
+struct tinyboot_setup {
+    uint32_t erase_size;          /* a multiple of 64, from 64 to 32,768 */
+    uint32_t capacity;            /* a multiple of the erase size, at most 65,536 and not 0: how long the flash is */
+    uint8_t id_len;               /* 0: unaddressed, or 1 to 16 */
+    uint8_t id[TINYBOOT_ID_SIZE]; /* from its first byte on; what is past id_len counts for nothing */
+    uint16_t version;             /* the bootloader's, any: TINYBOOT_PACK_VERSION */
+    uint32_t key;                 /* that of the images it takes, any: docs/WIRE.md; TINYBOOT_NO_KEY */
+};
+
+/* Lays them as the calls read them, TINYBOOT_SETUP_SIZE bytes: 0 erase size (4), 4 capacity (4), 8 id length, 9 id (16), 25 version (2), 27 key (4). */
+static inline void tinyboot_lay_setup(uint8_t *setup, const struct tinyboot_setup *numbers)
+{
+    size_t i;
+    tinyboot_put(setup, 4, numbers->erase_size);
+    tinyboot_put(setup + 4, 4, numbers->capacity);
+    setup[8] = numbers->id_len;
+    for (i = 0; i < TINYBOOT_ID_SIZE; i++) setup[9 + i] = numbers->id[i];
+    tinyboot_put(setup + 25, 2, numbers->version);
+    tinyboot_put(setup + 27, 4, numbers->key);
+}
+
+/* What an answer says, TINYBOOT_ANSWER_SIZE bytes: 0 number, 1 mode, 2 the reply's length (2), 4 the wait (4), 8 how many bytes were taken (8). */
+static inline uint8_t tinyboot_answer_number(const uint8_t *answer) { return answer[0]; }
+static inline uint8_t tinyboot_answer_mode(const uint8_t *answer) { return answer[1]; }
+static inline size_t tinyboot_answer_length(const uint8_t *answer) { return tinyboot_get(answer + 2, 2); }
+static inline uint32_t tinyboot_answer_wait(const uint8_t *answer) { return tinyboot_get(answer + 4, 4); }
+static inline size_t tinyboot_answer_taken(const uint8_t *answer)
+{
+    return (size_t)((uint64_t)tinyboot_get(answer + 12, 4) << 32 | tinyboot_get(answer + 8, 4));
+}
+
+/* How many bytes of a frame have begun in a state; and a state that forgets them, for a receiver whose line has gone idle inside a frame (docs/WIRE.md, Half a
+ * frame). Run and selection stay. A state has TINYBOOT_STATE_SIZE bytes: 0 frame (64), 64 page (64), 128 the next write's address (4; 0xFFFFFFFF: no write is
+ * pending), 132 bytes begun, 133 fill of the page, 134 selected, 135 closed, both 0 or 1. */
+static inline uint8_t tinyboot_frame_begun(const uint8_t *state) { return state[132]; }
+static inline void tinyboot_drop_frame(uint8_t *state) { state[132] = 0; }
+
+/* How many bytes a state takes: TINYBOOT_STATE_SIZE. A program may ask whether header and archive belong together. */
 size_t tinyboot_state_size(void);
 
-/* An open new state, with no frame begun and no write pending, and no decision about the app: for benches. 0; where state_len is another: 11, and nothing is
- * altered. */
-uint8_t tinyboot_new_state(uint8_t *state, size_t state_len);
+/* The first start, and every restart: TINYBOOT_HANDOFF asks for the app, every other mode for Service. Not refused, its number is TINYBOOT_STARTED, its mode is
+ * what was decided (TINYBOOT_HANDOFF: run the app, and feed no more), and the state is a new one, open on Service. What stood in the state before is not read.
+ * Of the record only the trials byte can change. Refusals: TINYBOOT_BAD_SETUP, TINYBOOT_BAD_STATE for another length, TINYBOOT_BAD_FLASH, TINYBOOT_BAD_RECORD,
+ * TINYBOOT_NO_ROOM for the answer. */
+uint8_t tinyboot_start(uint8_t mode, const uint8_t *setup, size_t setup_len, uint8_t *state, size_t state_len, const uint8_t *flash, size_t flash_len,
+                       uint8_t *meta, size_t meta_len, uint8_t *answer, size_t answer_len);
 
-/* Takes bytes up to the end of the first frame in them, carries that frame out on the flash and the record, and writes its reply. */
+/* Takes bytes up to the end of the first frame in them, carries that frame out on the flash and the record, and writes its reply. Any number of bytes may be
+ * handed in, none too. */
 uint8_t tinyboot_feed(const uint8_t *setup, size_t setup_len, uint8_t *state, size_t state_len, const uint8_t *bytes, size_t bytes_len,
                       uint8_t *flash, size_t flash_len, uint8_t *meta, size_t meta_len, uint8_t *reply, size_t reply_len,
                       uint8_t *answer, size_t answer_len);
 
-/* A restart, or the first start: mode 0 asks for the app, every other for Service. Not refused, its number is 0, its mode is what was decided (0: hand over
- * to the app, and feed no more), and the state is a new one, open on Service. What stood in the state before is not read. */
-uint8_t tinyboot_start(uint8_t mode, const uint8_t *setup, size_t setup_len, uint8_t *state, size_t state_len, const uint8_t *flash, size_t flash_len,
-                       uint8_t *meta, size_t meta_len, uint8_t *answer, size_t answer_len);
+/* An open new state, with no frame begun, no write pending and no decision about the app: for benches. 0; where state_len is another, TINYBOOT_BAD_STATE, and
+ * nothing is altered. */
+uint8_t tinyboot_new_state(uint8_t *state, size_t state_len);
 
 /* The CRC register after these bytes (CRC-16/IBM-3740), for hosts that make frames: begin with 0xFFFF, and pass the last result on for a message in parts. */
 uint16_t tinyboot_crc16(uint16_t crc, const uint8_t *bytes, size_t bytes_len);
