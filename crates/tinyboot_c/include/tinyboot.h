@@ -1,8 +1,8 @@
-/* The device side of tinyboot as a static library: libtinyboot_c.a, which `rt staticlib tinyboot_c` writes.
+/* The device side of tinyboot as a static library: libtinyboot_c.a, which `rt staticlib tinyboot_c` writes for x86-64, and ../archive for other machines.
  *
  * docs/C.md is the page to read first; docs/WIRE.md has the frames, the statuses, what an image is and a whole update; ../example/loop.c is a module in C.
  *
- * The archive is for x86-64 and keeps nothing between calls: all that a device is stands in the caller's buffers. The flash is an array in memory, not a chip's
+ * The library keeps nothing between calls: all that a device is stands in the caller's buffers. The flash is an array in memory, not a chip's
  * flash; an erase and a write change the array. The library wants memcpy, memmove and memset of the C library, and nothing else.
  *
  * What is proved of each call is the definition of its name in ../specs/Calls.antt (tinyboot_feed: cFed, tinyboot_start: cStarted) and in c_start
