@@ -213,7 +213,8 @@ uint8_t tinyboot_start(uint8_t mode, const uint8_t *setup, size_t setup_len, uin
                        uint8_t *meta, size_t meta_len, uint8_t *answer, size_t answer_len);
 
 /* Takes bytes up to the end of the first frame in them, carries that frame out on the flash and the record, and writes its reply. Any number of bytes may be
- * handed in, none too. */
+ * handed in, none too; how many were taken is in the answer. Refusals: TINYBOOT_BAD_SETUP, TINYBOOT_BAD_STATE, TINYBOOT_BAD_FLASH, TINYBOOT_BAD_RECORD,
+ * TINYBOOT_NO_ROOM for the reply or the answer, TINYBOOT_CLOSED. */
 uint8_t tinyboot_feed(const uint8_t *setup, size_t setup_len, uint8_t *state, size_t state_len, const uint8_t *bytes, size_t bytes_len,
                       uint8_t *flash, size_t flash_len, uint8_t *meta, size_t meta_len, uint8_t *reply, size_t reply_len,
                       uint8_t *answer, size_t answer_len);
