@@ -1,4 +1,5 @@
 pub mod Sheet
+pub mod Limits
 pub mod Keeping
 pub mod Rest
 pub mod Rooms

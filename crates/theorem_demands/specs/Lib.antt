@@ -2,3 +2,4 @@ pub mod Stream
 pub mod Devices
 pub mod Demand
 pub mod Sheet
+pub mod Limits
