@@ -1,11 +1,11 @@
 -- What a frame's end keeps: the lengths of frame, flash and record, a run of writes that is well formed, and that no frame is begun.
-use Prim.Native.Nat.{ℕ, suc, _+_, _≤_}
+use Prim.Native.Nat.{ℕ, _+_, _≤_}
 use mathlib.Core.Path.{_≡_, refl, sym, subst, _∙_}
 use mathlib.Core.Bool.{Bool, true, false, not, _&&_}
 use mathlib.Core.List.{List, _∷_}
 use native.Mathlib.Omega.{arith}
 use borrow.Author.Tests.{leb-true}
-use lib.ListN.{length, take, drop, length-take, length-set}
+use lib.ListN.{length, drop, length-take, length-set}
 use lib.Dec.{eqb, leb}
 use Rattle.laws.specs.Pick.{pick}
 use Rattle.laws.specs.Over.{over}
@@ -31,11 +31,8 @@ use Rattle.device_state.specs.declared.Setup.{Setup}
 use Rattle.device_state.specs.State.{World, frameSet, metaSet, numbersSet, selectedSet, closedSet}
 use Rattle.device_handler.specs.Handling.{Obeyed, bare, loaded, afterInfo, afterErase, afterWrite, crcLaid, afterVerify, afterReset, handledOf}
 use Rattle.device_replies.specs.Reply.{headed, replyOf}
+use Rattle.theorem_streams.proofs.Stored.{Synced, take-two}
 use Rattle.device_dispatcher.specs.Dispatch.{Ending, silent, answeredOf, good, overheard, obeyedOf, idOf, selecting, chosen, dispatchOf}
-
--- a frame whose AA 55 is laid
-abbrev pub Synced : List ℕ → Type 0
-Synced f = f ≡ 0xAA ∷ 0x55 ∷ drop 2 f
 
 pub record Fit (s : Setup) (w : World) : Type 0 where
   pub whole : length (w .state .frame) ≡ 64
@@ -53,9 +50,6 @@ other-fit s w f selected closed v e k = record { whole = e; synced = k; none = v
 -- what leaves AA 55 where they are
 sync-on : (f : List ℕ) → Synced f → (op : List ℕ → List ℕ) → ((r : List ℕ) → Synced (op (0xAA ∷ 0x55 ∷ r))) → Synced (op f)
 sync-on f e op k = subst (λ (v : List ℕ). Synced (op v)) (sym e) (k (drop 2 f))
-
-pub take-two : (n a b : ℕ) (l : List ℕ) → take (10 + n) (a ∷ b ∷ l) ≡ a ∷ b ∷ take (8 + n) l
-take-two n a b l = let i : 10 + n ≡ suc (suc (8 + n)) = omega arith in rw i refl
 
 sealed-sync : (n : ℕ) (f : List ℕ) → Synced (sealed n f)
 unfolding sealed

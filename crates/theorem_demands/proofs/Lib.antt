@@ -1,10 +1,8 @@
 pub mod Sheet
 pub mod Limits
 pub mod Keeping
-pub mod Rest
 pub mod Rooms
-pub mod Stored
-pub mod Calls
+pub mod Owing
 pub mod Cut
 pub mod Wrong
 pub mod Pieces

@@ -1,66 +1,44 @@
--- Two ways of handing in what a call has left of its piece a, with b as the next piece: both come to the uncut stream.
-use Prim.Native.Nat.{ℕ, _-_, _≤_}
-use mathlib.Core.Path.{_≡_, refl, sym, ap, subst, _∙_}
-use mathlib.Core.Bool.{true}
-use mathlib.Core.List.{List, [], _++_, append-assoc, append-nil}
-use native.Mathlib.Omega.{arith}
-use lib.ListN.{length, take, drop, take-append-drop}
-use lib.Seq.{drop-at, length-take-le}
-use Rattle.wire_frames.specs.Reading.{Outcome, Begun, Ended, readFrame}
+-- Pieces of any sizes come to the uncut stream, and so do the two ways of handing in what a call has left of its piece.
+use Prim.Native.Nat.{ℕ, _+_, _≤_}
+use mathlib.Core.Path.{_≡_}
+use mathlib.Core.List.{List, _++_}
+use lib.ListN.{length, drop}
 use Rattle.device_state.specs.declared.Setup.{Setup}
 use Rattle.device_state.specs.State.{World}
-use Rattle.device_feed.specs.Feed.{Called}
-use Rattle.theorem_demands.specs.Stream.{Story, wholeOf, storyOf}
-use Rattle.theorem_demands.specs.Demand.{ours, Good, noted, Runs, next}
-use Rattle.theorem_demands.proofs.Calls.{quiet-is, ended-is}
+use Rattle.theorem_streams.specs.Rules.{Called}
+use Rattle.theorem_streams.specs.Demand.{noted, Runs, callsOf}
+use Rattle.theorem_streams.proofs.Pieces as pieces
+use Rattle.theorem_demands.specs.Stream.{Story, rulesOf, storyOf}
+use Rattle.theorem_demands.specs.Demand.{ours, Good}
 use Rattle.theorem_demands.proofs.Cut.{demand-3}
 
+-- call k is handed 1 + size k bytes of those not yet taken, or all where there are fewer
+pub any-sizes : (s : Setup) (w : World) → Good 52 64 s w → (l : List ℕ) (size : ℕ → ℕ) (room : List ℕ) → 64 ≤ length room →
+    callsOf (ours s) room (1 + length l) size w l ≡ storyOf 52 64 s w l
+any-sizes s = pieces.any-sizes (rulesOf 52 64 s) (Good 52 64 s) (ours s) (demand-3 s)
+
+-- what a call has left of its piece a, with b as the next piece
 module _ (s : Setup) (w : World) (y : Good 52 64 s w) (a b room : List ℕ) (h : 64 ≤ length room) where
-  abbrev c : Called
+  abbrev c : Called World
   c = ours s w a room
-
-  abbrev read : Outcome
-  read = readFrame 52 true (wholeOf 52 w a)
-
-  -- no more is taken than was handed in
-  pub within : c .taken ≤ length a
-  within = go read refl
-    where
-      go : (o : Outcome) → read ≡ o → c .taken ≤ length a
-      go (Begun q) e = rw (quiet-is s w y a q e room h) (omega arith)
-      go (Ended k q r) e = rw (ended-is s w y a k q r e room h) (omega arith)
 
   -- what the call has left of its piece
   abbrev rest : List ℕ
   rest = drop (c .taken) a
 
-  left : drop (c .taken) (a ++ b) ≡ rest ++ b
-  left =
-      let t : List ℕ = take (c .taken) a in
-      ap (λ (v : List ℕ). drop (c .taken) (v ++ b)) (sym (take-append-drop (c .taken) a)) ∙
-      ap (drop (c .taken)) (append-assoc t rest b) ∙
-      drop-at t (rest ++ b) (c .taken) (length-take-le (c .taken) a within)
-
   module _ (not : c .told .number ≡ 3 → ⊥) (other : List ℕ) (o : 64 ≤ length other) (t : Story) where
     -- alone, and the next piece after it
-    abbrev alone : Called
+    abbrev alone : Called World
     alone = ours s (c .left) rest other
 
-    pub rest-alone : (alone .told .number ≡ 3 → ⊥) → Runs 52 ours s (alone .left) (drop (alone .taken) (rest ++ b)) t →
+    pub rest-alone : (alone .told .number ≡ 3 → ⊥) → Runs 52 (ours s) (alone .left) (drop (alone .taken) (rest ++ b)) t →
         noted c (noted alone t) ≡ storyOf 52 64 s w (a ++ b)
-    rest-alone n k =
-        demand-3 .uncut s w y (a ++ b) (noted c (noted alone t))
-        (next a b room c refl refl h not
-        (subst (λ (v : List ℕ). Runs 52 ours s (c .left) v (noted alone t)) (sym left) (next rest b other alone refl refl o n k)))
+    rest-alone = pieces.rest-alone (rulesOf 52 64 s) (Good 52 64 s) (ours s) (demand-3 s) w y a b room h not other o t
 
     -- before the next piece, in one
-    abbrev both : Called
+    abbrev both : Called World
     both = ours s (c .left) (rest ++ b) other
 
-    pub rest-first : (both .told .number ≡ 3 → ⊥) → Runs 52 ours s (both .left) (drop (both .taken) (rest ++ b)) t →
+    pub rest-first : (both .told .number ≡ 3 → ⊥) → Runs 52 (ours s) (both .left) (drop (both .taken) (rest ++ b)) t →
         noted c (noted both t) ≡ storyOf 52 64 s w (a ++ b)
-    rest-first n k =
-        demand-3 .uncut s w y (a ++ b) (noted c (noted both t))
-        (next a b room c refl refl h not
-        (subst (λ (v : List ℕ). Runs 52 ours s (c .left) v (noted both t)) (sym left)
-        (next (rest ++ b) [] other both refl (sym (append-nil (rest ++ b))) o n k)))
+    rest-first = pieces.rest-first (rulesOf 52 64 s) (Good 52 64 s) (ours s) (demand-3 s) w y a b room h not other o t

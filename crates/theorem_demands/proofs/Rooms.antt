@@ -7,7 +7,7 @@ use native.Mathlib.Omega.{arith}
 use borrow.Author.Tests.{leb-true, le-leb}
 use lib.ListN.{length, take, drop}
 use lib.Seq.{take-at, length-take-le}
-use lib.Dec.{eqb, leb}
+use lib.Dec.{leb}
 use Rattle.laws.specs.Over.{over}
 use Rattle.wire_frames.specs.Fields.{lenOf, flagsOf}
 use Rattle.wire_frames.specs.Stored.{ready}
@@ -21,13 +21,13 @@ use Rattle.device_handler.specs.Handling.{Obeyed}
 use Rattle.device_replies.specs.Answers.{Told, reply, restart}
 use Rattle.device_replies.specs.Reply.{headed, saidBy, spokenBy, replyOf}
 use Rattle.device_dispatcher.specs.Dispatch.{Ending, spokenTo, answeredOf, dispatchOf}
-use Rattle.theorem_demands.specs.Stream.{Event, eventOf}
+use Rattle.theorem_streams.proofs.Owed as owed
+use Rattle.theorem_demands.specs.Stream.{Event, endingOf, rulesOf}
 use Rattle.theorem_demands.proofs.Keeping.{Fit, headed-length, dispatch-all}
 
 -- the same but for what stands in the room past the reply
-pub record Same (a b : Ending) : Type 0 where
-  pub event : eventOf (a .told) (a .room) ≡ eventOf (b .told) (b .room)
-  pub left : a .left ≡ b .left
+abbrev Same : Ending → Ending → Type 0
+Same a b = owed.Same (endingOf a) (endingOf b)
 
 -- what is sent of a frame f of 64 bytes: the room's part of it is the frame on the wire
 pub record Wired (f : List ℕ) (a b : Sent) : Type 0 where
@@ -77,20 +77,18 @@ answered-same s wait x v room other r o =
       left = ap (λ (g : List ℕ). numbersSet (closedSet (x .restart) (x .left .state .numbers)) (frameSet g (x .left))) (k .bytes);
     }
 
--- what is said of a frame that has ended: it is not quiet, and a restart, which closes the feed, is 3
-pub record Numbered (a : Ending) : Type 0 where
-  pub loud : eqb (a .told .number) 0 ≡ false
-  pub closes : a .left .state .numbers .closed ≡ eqb (a .told .number) 3
-  pub few : a .told .number ≤ 3
+-- what is said of a frame that has ended
+abbrev Numbered : Setup → Ending → Type 0
+Numbered s a = owed.Numbered (rulesOf 52 64 s) (endingOf a)
 
-answered-number : (s : Setup) (wait : ℕ) (x : Obeyed) → Fit s (x .left) → (room : List ℕ) → Numbered (answeredOf 52 wait x room)
+answered-number : (s : Setup) (wait : ℕ) (x : Obeyed) → Fit s (x .left) → (room : List ℕ) → Numbered s (answeredOf 52 wait x room)
 unfolding answeredOf replyOf
 answered-number s wait x v room = go (x .restart) refl
   where
     f : List ℕ
     f = headed (x .status) (x .len) (x .left .state .frame)
 
-    go : (t : Bool) → x .restart ≡ t → Numbered (spokenTo x (spokenBy (x .restart) wait (flagsOf (x .left .state .frame)) (sendOf 52 f room)))
+    go : (t : Bool) → x .restart ≡ t → Numbered s (spokenTo x (spokenBy (x .restart) wait (flagsOf (x .left .state .frame)) (sendOf 52 f room)))
     go true e = rw e (record { loud = refl; closes = refl; few = omega arith })
     go false e = rw e (record { loud = refl; closes = refl; few = omega arith })
 
@@ -103,7 +101,7 @@ module _ (s : Setup) (kind : Kind) (w : World) (i : s .«id_len» ≤ 16) (v : F
       (λ g k c room other r o. record { event = refl; left = refl })
       (answered-same s)
 
-  pub dispatch-number : (room : List ℕ) → Numbered (dispatchOf 52 64 s kind w room)
+  pub dispatch-number : (room : List ℕ) → Numbered s (dispatchOf 52 64 s kind w room)
   dispatch-number =
-      dispatch-all s kind w i v u (λ (e : List ℕ → Ending). (room : List ℕ) → Numbered (e room))
+      dispatch-all s kind w i v u (λ (e : List ℕ → Ending). (room : List ℕ) → Numbered s (e room))
       (λ g k c room. record { loud = refl; closes = c; few = omega arith }) (answered-number s)

@@ -1,25 +1,30 @@
--- What the frame holds once a whole frame has come: 64 bytes that begin AA 55.
-use Prim.Native.Nat.{ℕ, _+_, _-_, _≤_, _<_}
+-- What the frame holds once a whole frame has come: 12 + cap bytes that begin AA 55.
+use Prim.Native.Nat.{ℕ, suc, _+_, _≤_}
 use mathlib.Core.Path.{_≡_, refl, sym, ap, _∙_}
 use mathlib.Core.Bool.{Bool, true, false}
-use mathlib.Core.List.{List, [], _∷_, _++_}
+use mathlib.Core.List.{List, [], _∷_}
 use mathlib.Core.Logic.{inl}
 use native.Mathlib.Omega.{arith}
 use borrow.Author.Tests.{ltb-false}
-use lib.ListN.{length, getD, take, drop, length-append, length-take, length-drop}
+use lib.ListN.{length, take, drop, length-append, length-take, length-drop}
 use lib.Seq.{length-take-le}
 use lib.Dec.{ltb}
 use Rattle.laws.specs.Pick.{pick}
-use Rattle.laws.specs.Over.{over}
 use Rattle.wire_frames.specs.declared.frame.Kind.{Kind}
 use Rattle.wire_frames.specs.declared.frame.End.{End}
 use Rattle.wire_frames.specs.declared.frame.End.the-variants.{Going, Over}
 use Rattle.wire_frames.specs.Fields.{lenOf}
-use Rattle.wire_frames.specs.Reading.{Hunt, Open, Sync, hunt, verdictOf, checked, judged, started, fromHunt, Outcome, Begun, Ended, readFrame}
+use Rattle.wire_frames.specs.Reading.{Hunt, Open, Sync, hunt, verdictOf, checked, judged, started, fromHunt, Begun, Ended, readFrame}
 use Rattle.wire_frames.specs.Stored.{store, ready}
 use Rattle.wire_frames.proofs.Reading.{Split, split-of, going-size, size-take}
 use Rattle.wire_frames.proofs.Storing.{store-short}
-use Rattle.theorem_demands.proofs.Keeping.{Synced, take-two}
+
+-- a frame whose AA 55 is laid
+abbrev pub Synced : List ℕ → Type 0
+Synced f = f ≡ 0xAA ∷ 0x55 ∷ drop 2 f
+
+pub take-two : (n a b : ℕ) (l : List ℕ) → take (10 + n) (a ∷ b ∷ l) ≡ a ∷ b ∷ take (8 + n) l
+take-two n a b l = let i : 10 + n ≡ suc (suc (8 + n)) = omega arith in rw i refl
 
 module _ (cap : ℕ) (device : Bool) where
   -- what is stored of a frame fits before the CRC's place

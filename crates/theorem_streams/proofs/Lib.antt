@@ -1,0 +1,7 @@
+pub mod Rest
+pub mod Stored
+pub mod Owed
+pub mod Calls
+pub mod Cut
+pub mod Meets
+pub mod Pieces
