@@ -6,4 +6,3 @@ pub mod Owing
 pub mod Cut
 pub mod Wrong
 pub mod Pieces
-pub mod Determined

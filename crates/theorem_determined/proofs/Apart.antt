@@ -1,0 +1,100 @@
+-- What the lines of this crate cite: two that equal one thing are equal; and what tells answers apart which contracts know by their numbers, or by what they
+-- say.
+use Prim.Native.Nat.{ℕ}
+use mathlib.Core.Path.{_≡_, refl, ap, sym, _∙_}
+use lib.Dec.{eqb}
+use Rattle.laws.specs.Pick.{pick}
+use Rattle.laws.proofs.Inverse.{apart}
+use Rattle.wire_numbers.proofs.Apart.{modeFrom, mode-back}
+use Rattle.wire_frames.specs.declared.frame.Kind.{Kind}
+use Rattle.wire_frames.specs.declared.frame.Stop.{Stop}
+use Rattle.wire_frames.specs.Stored.{Said, quiet, ended, noBeginning, saidOf}
+use Rattle.store_record.specs.declared.traits.BootState.{BootState}
+use Rattle.store_record.specs.State.{stateByte}
+use Rattle.device_state.specs.declared.refusal.Refusal.{Refusal}
+use Rattle.device_state.specs.Refusals.{refusalNumber}
+use Rattle.device_replies.specs.declared.Answer.{Answer}
+use Rattle.device_replies.specs.Answers.{Told, toldOf}
+
+pub plain : {A : Type 0} {s a b : A} → a ≡ s → b ≡ s → a ≡ b
+plain p q = p ∙ sym q
+
+abbrev refusalFrom : ℕ → Refusal
+refusalFrom n =
+    pick (eqb n 10) Refusal.BadSetup
+    (pick (eqb n 11) Refusal.BadState
+    (pick (eqb n 12) Refusal.BadFlash
+    (pick (eqb n 13) Refusal.BadRecord (pick (eqb n 14) Refusal.NoRoom (pick (eqb n 15) Refusal.Closed Refusal.None)))))
+
+refusal-back : (r : Refusal) → refusalFrom (refusalNumber r) ≡ r
+refusal-back Refusal.None = refl
+refusal-back Refusal.BadSetup = refl
+refusal-back Refusal.BadState = refl
+refusal-back Refusal.BadFlash = refl
+refusal-back Refusal.BadRecord = refl
+refusal-back Refusal.NoRoom = refl
+refusal-back Refusal.Closed = refl
+
+pub refusal-apart : (a b : Refusal) → refusalNumber a ≡ refusalNumber b → a ≡ b
+refusal-apart = apart refusalNumber refusalFrom refusal-back
+
+abbrev answerFrom : Told → Answer
+answerFrom t =
+    pick (eqb (t .number) 0) Answer.Quiet
+    (pick (eqb (t .number) 1) Answer.Silent
+    (pick (eqb (t .number) 2) (Answer.Reply (t .len) (t .wait))
+    (pick (eqb (t .number) 3) (Answer.Restart (t .len) (modeFrom (t .mode)))
+    (pick (eqb (t .number) 10) Answer.BadSetup
+    (pick (eqb (t .number) 11) Answer.BadState
+    (pick (eqb (t .number) 12) Answer.BadFlash
+    (pick (eqb (t .number) 13) Answer.BadRecord (pick (eqb (t .number) 14) Answer.NoRoom Answer.Closed))))))))
+
+answer-back : (a : Answer) → answerFrom (toldOf a) ≡ a
+answer-back Answer.Quiet = refl
+answer-back Answer.Silent = refl
+answer-back (Answer.Reply len wait) = refl
+answer-back (Answer.Restart len mode) = ap (Answer.Restart len) (mode-back mode)
+answer-back Answer.BadSetup = refl
+answer-back Answer.BadState = refl
+answer-back Answer.BadFlash = refl
+answer-back Answer.BadRecord = refl
+answer-back Answer.NoRoom = refl
+answer-back Answer.Closed = refl
+
+pub answer-apart : (a b : Answer) → toldOf a ≡ toldOf b → a ≡ b
+answer-apart = apart toldOf answerFrom answer-back
+
+abbrev stopOf : Kind → Stop
+stopOf Kind.Unsupported = Stop.Unsupported
+stopOf Kind.PayloadOverflow = Stop.PayloadOverflow
+stopOf Kind.Overheard = Stop.Overheard
+stopOf Kind.CrcMismatch = Stop.CrcMismatch
+stopOf Kind.Good = Stop.Good
+
+abbrev stopFrom : Said → Stop
+stopFrom quiet = Stop.Going
+stopFrom (ended k) = stopOf k
+stopFrom noBeginning = Stop.Refused
+
+stop-back : (s : Stop) → stopFrom (saidOf s) ≡ s
+stop-back Stop.Refused = refl
+stop-back Stop.Going = refl
+stop-back Stop.Unsupported = refl
+stop-back Stop.PayloadOverflow = refl
+stop-back Stop.Overheard = refl
+stop-back Stop.CrcMismatch = refl
+stop-back Stop.Good = refl
+
+pub stop-apart : (a b : Stop) → saidOf a ≡ saidOf b → a ≡ b
+stop-apart = apart saidOf stopFrom stop-back
+
+abbrev stateFrom : ℕ → BootState
+stateFrom n = pick (eqb n 0xFF) BootState.Idle (pick (eqb n 0x7F) BootState.Updating BootState.Validating)
+
+state-back : (s : BootState) → stateFrom (stateByte s) ≡ s
+state-back BootState.Idle = refl
+state-back BootState.Updating = refl
+state-back BootState.Validating = refl
+
+pub state-apart : (a b : BootState) → stateByte a ≡ stateByte b → a ≡ b
+state-apart = apart stateByte stateFrom state-back

@@ -1,0 +1,66 @@
+-- The calls for C, and what they are made of.
+use Rattle.theorem_determined.specs.Determined.{Determined}
+use Rattle.theorem_determined.proofs.Apart.{plain}
+use Rattle.c_layout.proofs as c_layout
+use Rattle.c_start.proofs as c_start
+use Rattle.tinyboot_c.proofs as tinyboot_c
+
+pub holds-setup : Determined c_layout.holds_setup.ended c_layout.holds_setup.Reads.Post
+holds-setup κs a o o' p q i = (plain p q i, o .1)
+
+pub holds-state : Determined c_layout.holds_state.ended c_layout.holds_state.Reads.Post
+holds-state κs a o o' p q i = (plain p q i, o .1)
+
+pub number-bytes : Determined c_layout.number_bytes.ended c_layout.number_bytes.Reads.Post
+number-bytes κs a o o' p q i = (plain p q i, o .1)
+
+pub new-bytes : Determined c_layout.new_bytes.ended c_layout.new_bytes.Reads.Post
+new-bytes κs a o o' p q i = (plain p q i, o .1)
+
+pub unsaid : Determined c_layout.unsaid.ended c_layout.unsaid.Reads.Post
+unsaid κs a o o' p q i =
+    (record { number = plain (p .0) (q .0) i; mode = plain (p .3) (q .3) i; len = plain (p .1) (q .1) i; wait = plain (p .2) (q .2) i }, o .1)
+
+pub mode-number : Determined c_layout.mode_number.ended c_layout.mode_number.Reads.Post
+mode-number κs a o o' p q i = (plain p q i, o .1)
+
+pub numbers-of : Determined c_layout.numbers_of.ended c_layout.numbers_of.Reads.Post
+numbers-of κs a o o' p q i =
+    (record { number = plain (p .0) (q .0) i; mode = plain (p .3) (q .3) i; len = plain (p .1) (q .1) i; wait = plain (p .2) (q .2) i }, o .1)
+
+pub lay-answer : Determined c_layout.lay_answer.ended c_layout.lay_answer.Reads.Post
+lay-answer κs a o o' p q i = (plain (p .0) (q .0) i, (plain (p .1) (q .1) i, (tt, (tt, tt))))
+
+pub refuse : Determined c_layout.refuse.ended c_layout.refuse.Reads.Post
+refuse κs a o o' p q i = (plain (p .0) (q .0) i, (plain (p .1) (q .1) i, (tt, tt)))
+
+pub new-in : Determined c_start.new_in.ended c_start.new_in.Reads.Post
+new-in κs a o o' p q i =
+    let e = plain p q in
+    (e i .result, (e i .state, tt))
+
+pub start-in : Determined c_start.start_in.ended c_start.start_in.Reads.Post
+start-in κs a o o' p q i =
+    let e = plain p q in
+    (e i .result, (tt, (tt, (e i .state, (tt, (e i .meta, (e i .answer, tt)))))))
+
+pub tinyboot-state-size : Determined tinyboot_c.tinyboot_state_size.ended tinyboot_c.tinyboot_state_size.Reads.Post
+tinyboot-state-size κs a o o' p q i = (plain p q i, o .1)
+
+pub tinyboot-crc16 : Determined tinyboot_c.tinyboot_crc16.ended tinyboot_c.tinyboot_crc16.Reads.Post
+tinyboot-crc16 κs a o o' p q i = (plain p q i, o .1)
+
+pub tinyboot-new-state : Determined tinyboot_c.tinyboot_new_state.ended tinyboot_c.tinyboot_new_state.Reads.Post
+tinyboot-new-state κs a o o' p q i =
+    let e = plain p q in
+    (e i .result, (e i .state, tt))
+
+pub tinyboot-feed : Determined tinyboot_c.tinyboot_feed.ended tinyboot_c.tinyboot_feed.Reads.Post
+tinyboot-feed κs a o o' p q i =
+    let e = plain p q in
+    (e i .result, (tt, (e i .state, (tt, (e i .flash, (e i .meta, (e i .reply, (e i .answer, tt))))))))
+
+pub tinyboot-start : Determined tinyboot_c.tinyboot_start.ended tinyboot_c.tinyboot_start.Reads.Post
+tinyboot-start κs a o o' p q i =
+    let e = plain p q in
+    (e i .result, (tt, (tt, (e i .state, (tt, (e i .meta, (e i .answer, tt)))))))

@@ -1,0 +1,6 @@
+pub mod Apart
+pub mod Wire
+pub mod Store
+pub mod Commands
+pub mod Device
+pub mod C
