@@ -262,8 +262,8 @@ row8 =
 abbrev pub row9 : List Row
 row9 = starting 7 0xFF 1 ∷ starting 8 0xFF 0 ∷ starting 9 0xFF 0 ∷ starting 1 0xB0 0x10 ∷ starting 2 0xB0 0 ∷ []
 
--- row 10: of the id 5A 01, nine bits 5A FF match and 5A 00 do not; seventeen never, none always. The id's CRC is EC5A: seed 3 gives a wait of 11, F8, which is
--- 8 of 16, one of 12. An Info between them is answered while selected, and else not
+-- row 10: of the id 5A 01, nine bits 5A FF match and 5A 00 do not; seventeen never, none always. The id's CRC is EC5A: seed 3 gives a wait of 11, and seed F8,
+-- as 8 would, one of 12. An Info is answered while the device is selected, and not before or after
 abbrev pub row10 : Row
 row10 =
     named
