@@ -6,6 +6,5 @@ pub mod Lists
 pub mod Loops
 pub mod Low
 pub mod Pick
-pub mod Product
 pub mod Upto
 pub mod Xor

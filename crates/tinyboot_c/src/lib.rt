@@ -11,9 +11,11 @@ use c_layout::holds_state;
 use c_layout::refuse;
 use c_start::new_in;
 use c_start::start_in;
+use wire_numbers::compat_key;
 use wire_numbers::crc::crc16;
 ghost use mathlib.Core.Path.{_≡_};
 ghost use Rattle.wire_numbers.specs.Crc.{crcFrom};
+ghost use Rattle.wire_numbers.specs.Key.{keyOf};
 ghost use Rattle.c_layout.specs.Layout.{stateSize};
 ghost use Rattle.c_start.specs.Start.{afterNew, cNew, afterStart};
 ghost use Rattle.tinyboot_c.specs.Calls.{afterFeed, cFed, cStarted};
@@ -32,6 +34,14 @@ pub extern "C" fn tinyboot_crc16(crc: u16, bytes: &[u8]) -> u16
     ensures { λ r. ⌜ r ≡ crcFrom crc (now (bytes .entry)) ⌝ }
 {
     crc16(crc, bytes)
+}
+
+// The key of a name, for who sets up a module or makes an image for it.
+#[no_mangle]
+pub extern "C" fn tinyboot_key(name: &[u8]) -> u32
+    ensures { λ r. ⌜ r ≡ keyOf (now (name .entry)) ⌝ }
+{
+    compat_key(name)
 }
 
 // An open new state, where the buffer is as long as a state.

@@ -2,6 +2,7 @@
 pub mod crc;
 pub mod le;
 
+use std::num::wrapping_add_u32;
 ghost use mathlib.Core.Path.{_≡_};
 ghost use Prim.Native.Nat.{_*_, _%_, _^_};
 ghost use Rattle.wire_numbers.specs.Names.{
@@ -193,16 +194,20 @@ impl Status {
 // The key that fits every image: the device then compares none.
 pub const COMPAT_UNSET: u32 = 0xFFFF_FFFF;
 
-fn wrapping_mul_u32(a: u32, b: u32) -> u32
-    ensures { λ r. ⌜ r ≡ a * b % 2 ^ 32 ⌝ }
+// The product with the prime, 2^24 + 2^8 + 2^7 + 2^4 + 2 + 1: by shifts and wrapping sums, since the smallest controller has no multiplier.
+fn times_prime(h: u32) -> u32
+    ensures { λ r. ⌜ r ≡ h * 0x01000193 % 2 ^ 32 ⌝ }
 {
-    ((a as u64) * (b as u64) % 0x1_0000_0000) as u32
+    let a = wrapping_add_u32(h << 24, h << 8);
+    let b = wrapping_add_u32(h << 7, h << 4);
+    let c = wrapping_add_u32(h << 1, h);
+    wrapping_add_u32(wrapping_add_u32(a, b), c)
 }
 
 fn fnv_step(h: u32, b: u8) -> u32
     ensures { λ r. ⌜ r ≡ fnvStep h b ⌝ }
 {
-    wrapping_mul_u32(h ^ (b as u32), 0x0100_0193)
+    times_prime(h ^ (b as u32))
 }
 
 // The key of a name: its FNV-1a hash, and never COMPAT_UNSET.
