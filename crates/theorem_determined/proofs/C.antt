@@ -50,6 +50,9 @@ tinyboot-state-size κs a o o' p q i = (plain p q i, o .1)
 pub tinyboot-crc16 : Determined tinyboot_c.tinyboot_crc16.ended tinyboot_c.tinyboot_crc16.Reads.Post
 tinyboot-crc16 κs a o o' p q i = (plain p q i, o .1)
 
+pub tinyboot-key : Determined tinyboot_c.tinyboot_key.ended tinyboot_c.tinyboot_key.Reads.Post
+tinyboot-key κs a o o' p q i = (plain p q i, o .1)
+
 pub tinyboot-new-state : Determined tinyboot_c.tinyboot_new_state.ended tinyboot_c.tinyboot_new_state.Reads.Post
 tinyboot-new-state κs a o o' p q i =
     let e = plain p q in

@@ -28,6 +28,7 @@ extern "C" {
         meta: *mut u8, meta_len: usize, answer: *mut u8, answer_len: usize,
     ) -> u8;
     fn tinyboot_crc16(crc: u16, bytes: *const u8, bytes_len: usize) -> u16;
+    fn tinyboot_key(name: *const u8, name_len: usize) -> u32;
 }
 
 /// What an answer says.
@@ -110,6 +111,10 @@ fn crc(bytes: &[u8]) -> u16 {
     unsafe { tinyboot_crc16(0xFFFF, bytes.as_ptr(), bytes.len()) }
 }
 
+fn key(name: &[u8]) -> u32 {
+    unsafe { tinyboot_key(name.as_ptr(), name.len()) }
+}
+
 /// A request as a host makes it.
 fn frame(command: u8, address: u32, flags: u8, data: &[u8]) -> Vec<u8> {
     let mut f = vec![0xAA, 0x55, command, 0];
@@ -153,6 +158,7 @@ fn stream(device: &mut Device, bytes: &[u8], piece: usize) {
 
 fn main() {
     let piece = std::env::args().nth(1).map_or(7, |n| n.parse().expect("bytes in a piece"));
+    assert_eq!(key(b"foobar"), 0xBF9C_F968); // FNV-1a's published vector
     let mut device = Device::new(128, 1024, 0x0840, 0xA1B2_C3D4); // version 1.1.0
     let app: Vec<u8> = (0..192).map(|i: u32| (3 + 7 * i) as u8).collect();
     let mut sent = frame(0, 0, 0, &[]);

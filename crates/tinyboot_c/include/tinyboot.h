@@ -226,6 +226,9 @@ uint8_t tinyboot_new_state(uint8_t *state, size_t state_len);
 /* The CRC register after these bytes (CRC-16/IBM-3740), for hosts that make frames: begin with 0xFFFF, and pass the last result on for a message in parts. */
 uint16_t tinyboot_crc16(uint16_t crc, const uint8_t *bytes, size_t bytes_len);
 
+/* The key of a name, for a setup and for an image (docs/WIRE.md): its FNV-1a hash, and never TINYBOOT_NO_KEY. */
+uint32_t tinyboot_key(const uint8_t *name, size_t name_len);
+
 #ifdef __cplusplus
 }
 #endif
