@@ -5,7 +5,7 @@ use mathlib.Core.List.{List}
 use mathlib.Core.Bool.{Bool, true, false, not, _&&_, _||_}
 use native.Mathlib.Nat.{dvd-trans, dvd-add, mod-eq-zero-of-dvd, dvd-of-mod-eq-zero}
 use native.Mathlib.Omega.{arith}
-use lib.ListN.{length}
+use lib.ListN.{length, set}
 use lib.Dec.{leb, ltb, eqb}
 use borrow.Author.Tests.{lt-ltb, le-ltb, ltb-true, leb-true, leb-false, eq-eqb, ne-eqb, eqb-true, eqb-false, not-true, not-false}
 use Rattle.laws.specs.Pick.{pick}
@@ -17,7 +17,8 @@ use Rattle.store_record.specs.State.{stateRead}
 use Rattle.store_record.specs.Record.{stateOf, refreshed, advanced, advanceAnswer, updating, validating}
 use Rattle.store_flash.proofs.Flash.{erased-length}
 use Rattle.store_flash.proofs.Answers.{erase-all}
-use Rattle.store_record.proofs.Record.{answer-above, advanced-refused, advanced-length, refreshed-length}
+use Rattle.store_record.proofs.States.{idle-only, idle-rest}
+use Rattle.store_record.proofs.Record.{answer-above, stepped-above, advanced-refused, advanced-length, refreshed-length}
 use Rattle.wire_frames.specs.Fields.{addrOf, Ok, WriteError, AddrOutOfBounds}
 use Rattle.cmd_erase.specs.Erase.{Erased, byteCountOf, rangeFits, readied, stuck, erasedTo, carried, eraseOf}
 
@@ -66,6 +67,25 @@ module _ (meta : List ℕ) (s : ℕ) (e : s ≡ stateRead (stateOf meta)) where
   pub ready-validating : s ≡ 0x3F → (true ≡ not (stuck meta)) × (refreshed meta 0xFFFF 0x7F 0xFFFFFFFF ≡ readied meta)
   unfolding stuck readied
   ready-validating w = (rw (← e, w) refl, rw (← e, w) refl)
+
+-- the state is stepped only from Idle, whose byte is 0xFF, and there the step succeeds
+pub erase-steps : (meta : List ℕ) → updating meta ≡ false → validating meta ≡ false →
+    (stateOf meta ≡ 0xFF) × (advanceAnswer meta ≡ 0) × (readied meta ≡ set meta 0 0x7F)
+unfolding readied
+erase-steps meta u v =
+    let i = idle-only (stateOf meta) (idle-rest (stateOf meta) u v) in
+    let h : 0x3F < stateOf meta = omega (arith, i .0) in
+    (i .0, answer-above 0x3F 1 (stateOf meta) h, rw (u, v, stepped-above 0x3F (stateOf meta) h, i .1) refl)
+
+-- so no record is stuck
+pub never-stuck : (meta : List ℕ) → stuck meta ≡ false
+unfolding stuck
+never-stuck meta = go (updating meta) (validating meta) refl refl
+  where
+    go : (u v : Bool) → updating meta ≡ u → validating meta ≡ v → not u && (not v && not (eqb (advanceAnswer meta) 0)) ≡ false
+    go true v p q = refl
+    go false true p q = refl
+    go false false p q = rw (erase-steps meta p q .1) refl
 
 -- a record that is stuck is kept: its state byte is not above the floor
 pub stuck-kept : (meta : List ℕ) → stuck meta ≡ true → readied meta ≡ meta

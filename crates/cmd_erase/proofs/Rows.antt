@@ -14,12 +14,13 @@ use Rattle.cmd_erase.specs.Erase.{rangeFits, readied, stuck, erasedTo, e
 abbrev zeros : List ℕ
 zeros = replicate {A = ℕ} 128 0
 
--- counts 0 and 96 are refused, the record untouched; 64 is taken, and Idle steps to Updating, Validating is rewritten
+-- counts 0 and 96 are refused, the record untouched; 64 is taken, and Idle steps to Updating, Validating is rewritten, and a
+-- byte that is none of the three stays: it reads as Updating
 pub row12 : (eraseOf 64 64 128 (frame 64 0 0) zeros (bare 0xFF) ≡ erasedTo 4 zeros (bare 0xFF)) ×
     (eraseOf 64 64 128 (frame 0 0 96) zeros (bare 0xFF) ≡ erasedTo 4 zeros (bare 0xFF)) ×
     (eraseOf 64 64 128 (frame 64 0 128) zeros (bare 0xFF) ≡ erasedTo 4 zeros (bare 0xFF)) ×
     (eraseOf 64 64 128 (frame 64 0 64) zeros (bare 0xFF) ≡ erasedTo 1 (replicate {A = ℕ} 64 0 ++ replicate {A = ℕ} 64 0xFF) (bare 0x7F)) ×
     (eraseOf 64 64 128 (frame 0 0 64) zeros waiting ≡ erasedTo 1 (replicate {A = ℕ} 64 0xFF ++ replicate {A = ℕ} 64 0) (bare 0x7F)) ×
-    (eraseOf 64 64 128 (frame 0 0 64) zeros (bare 0x1F) ≡ erasedTo 2 zeros (bare 0x1F))
+    (eraseOf 64 64 128 (frame 0 0 64) zeros (bare 0x1F) ≡ erasedTo 1 (replicate {A = ℕ} 64 0xFF ++ replicate {A = ℕ} 64 0) (bare 0x1F))
 unfolding eraseOf rangeFits readied stuck stateRead stepped stepAnswer erased flash.pagesErased
 row12 = (refl, refl, refl, refl, refl, refl)

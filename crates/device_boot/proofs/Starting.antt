@@ -1,18 +1,19 @@
 -- The decision of a start, case by case.
-use Prim.Native.Nat.{ℕ, _≤_, _<_}
-use mathlib.Core.Path.{_≡_, refl, sym, _∙_}
+use Prim.Native.Nat.{ℕ, _+_, _≤_, _<_}
+use mathlib.Core.Path.{_≡_, refl, sym, ap, _∙_}
 use mathlib.Core.List.{List}
 use mathlib.Core.Bool.{Bool, true, false, not, _&&_}
-use mathlib.Core.Logic.{_⊎_, inl, inr}
+use mathlib.Core.Logic.{_⊎_, inl, inr, ⊎-elim}
 use native.Mathlib.Omega.{arith}
-use borrow.Author.Tests.{eq-eqb, ne-eqb, le-leb, lt-leb, eqb-false}
+use borrow.Author.Tests.{eq-eqb, ne-eqb, le-leb, lt-leb, eqb-true, eqb-false}
 use Rattle.laws.specs.Pick.{pick}
-use Rattle.store_record.proofs.Record.{answer-above}
-use lib.ListN.{take}
+use Rattle.store_record.proofs.Record.{answer-above, stepped-above, trial-refused}
+use Rattle.store_record.proofs.Bytes.{one-less}
+use lib.ListN.{take, set}
 use lib.Dec.{leb, eqb}
 use Rattle.wire_numbers.specs.Crc.{crcOf}
 use Rattle.store_record.specs.State.{stateRead, appPresent}
-use Rattle.store_record.specs.Record.{stateOf, trialsOf, checksumOf, sizeOf, trialAnswer, trialUsed}
+use Rattle.store_record.specs.Record.{stateOf, trialsOf, checksumOf, sizeOf, half, startsLeft, trialAnswer, trialUsed}
 use Rattle.device_boot.specs.Start.{validOf, Clearance, clears, triedOf, clearedOf, Decision, stays, checkedOf, startOf}
 
 module _ (capacity : ℕ) (flash meta : List ℕ) where
@@ -105,3 +106,21 @@ start-record capacity mode flash meta =
     go false false true true = inl (same (clears false meta))
     go false false true false = inr (same (clears true (trialUsed meta)))
     go false false false n = inl (same (clears true meta))
+
+-- a trial is taken only where one is left, and then one fewer is
+pub start-trial : (capacity mode : ℕ) (flash meta : List ℕ) → trialsOf meta < 256 →
+    (startOf capacity mode flash meta .meta ≡ meta) ⊎
+    ((trialsOf meta ≡ 0 → ⊥) × (trialAnswer meta ≡ 0) × (startsLeft (half (trialsOf meta)) + 1 ≡ startsLeft (trialsOf meta)) ×
+    (startOf capacity mode flash meta .meta ≡ set meta 1 (half (trialsOf meta))))
+start-trial capacity mode flash meta h = go (eqb (trialsOf meta) 0) refl
+  where
+    go : (n : Bool) → eqb (trialsOf meta) 0 ≡ n → (startOf capacity mode flash meta .meta ≡ meta) ⊎
+        ((trialsOf meta ≡ 0 → ⊥) × (trialAnswer meta ≡ 0) × (startsLeft (half (trialsOf meta)) + 1 ≡ startsLeft (trialsOf meta)) ×
+        (startOf capacity mode flash meta .meta ≡ set meta 1 (half (trialsOf meta))))
+    go true e = inl (⊎-elim (λ x. x) (λ x. x ∙ trial-refused meta (eqb-true _ _ e)) (start-record capacity mode flash meta))
+    go false e =
+        let z : trialsOf meta ≡ 0 → ⊥ = eqb-false _ _ e in
+        let p : 0 < trialsOf meta = omega arith in
+        ⊎-elim (λ x. inl x)
+        (λ x. inr (z, answer-above 0 2 (trialsOf meta) p, one-less (trialsOf meta) h z, x ∙ ap (set meta 1) (stepped-above 0 (trialsOf meta) p)))
+        (start-record capacity mode flash meta)

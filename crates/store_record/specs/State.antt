@@ -14,10 +14,9 @@ stateByte Idle = 0xFF
 stateByte Updating = 0x7F
 stateByte Validating = 0x3F
 
--- how a state byte is read: traits.rs decides, and there any byte that is none of the three reads as Idle. The one place that says so: a later request
--- changes it
+-- how a state byte is read: any byte that is none of the three reads as Updating
 unfoldable pub stateRead : ℕ → ℕ
-stateRead v = pick (eqb v 0x7F) 0x7F (pick (eqb v 0x3F) 0x3F 0xFF)
+stateRead v = pick (eqb v 0xFF) 0xFF (pick (eqb v 0x3F) 0x3F 0x7F)
 
 -- the sign of an app: a first word that is not all ones; a flash of fewer than four bytes has none
 unfoldable pub appPresent : List ℕ → Bool

@@ -13,14 +13,14 @@ pub enum BootState {
 }
 
 impl BootState {
-    // A byte that is none of the three reads as Idle.
+    // A byte that is none of the three reads as Updating: what is not known to be whole does not start.
     pub fn from_u8(v: u8) -> BootState
         ensures { λ r. ⌜ stateByte r ≡ stateRead v ⌝ }
     {
         match v {
-            0x7F => BootState::Updating,
+            0xFF => BootState::Idle,
             0x3F => BootState::Validating,
-            _ => BootState::Idle,
+            _ => BootState::Updating,
         }
     }
 
