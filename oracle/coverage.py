@@ -15,6 +15,8 @@ def state_name(byte):
 
 
 STATE_NAMES = ("FF", "7F", "3F", "another above 3F", "another below 3F")
+# What reads as Updating.
+ODD_OR_UPDATING = ("7F", "another above 3F", "another below 3F")
 
 
 class Counted(model.Device):
@@ -402,8 +404,8 @@ def wanted():
     """Every point that has to be reached, by group."""
     points = {
         "answer": [0, 1, 2, 3, *range(10, 16)],
-        "status": range(1, 8),
-        "reply": [f"{COMMANDS[command]} {STATUSES[status]}" for command, statuses in enumerate(((1, 3, 5, 6), (1, 2, 3, 4, 5, 6), (1, 3, 4, 5, 6), (1, 3, 4, 5, 6, 7), (1, 3, 5, 6), (1, 3, 5, 6)))
+        "status": (1, 3, 4, 5, 6, 7),
+        "reply": [f"{COMMANDS[command]} {STATUSES[status]}" for command, statuses in enumerate(((1, 3, 5, 6), (1, 3, 4, 5, 6), (1, 3, 4, 5, 6), (1, 3, 4, 5, 6, 7), (1, 3, 5, 6), (1, 3, 5, 6)))
                   for status in statuses] + ["no command Unsupported"],
         "restart": MODES,
         "wait": range(16),
@@ -420,13 +422,13 @@ def wanted():
         + [f"refused by {what} alone, state {state}" for what in ("address", "count", "count 0", "end") for state in STATE_NAMES]
         + ["end one block above", "end further above", "count a multiple of 64 alone", "count no multiple of 64", "address a multiple of 64 alone", "address no multiple of 64"],
         "Erase state byte": ["FF", "7F", "3F", "FE", "80", "40", "7E", "3E", "01", "00"],
-        "Write": [f"refused by state {state}" for state in STATE_NAMES if state != "7F"] + ["taken, state 7F", "refused by state before place or end", "end below capacity", "over cells that are not FF"]
+        "Write": ["refused by state FF", "refused by state 3F"] + [f"taken, state {state}" for state in ODD_OR_UPDATING] + ["refused by state before place or end", "end below capacity", "over cells that are not FF"]
         + [f"{run}, {what}" for run in ("no run", "a run") for what in ("right place", "refused by place alone", "end at capacity", "end one above capacity")]
         + [f"length {n}" for n in (0, 1, 51, 52)] + [f"flags {n}" for n in ("00", "7F", "80", "FF")] + [f"page to {n}" for n in (63, 64, 65)] + ["flush of nothing", "flush of a rest"]
         + [f"no run, off a page's start by {n}" for n in (1, 32, 63)] + ["a run, off its end by +1", "a run, off its end by -1", "a run, at a page's start"],
         "Write fill before": range(64),
         "Write fill after": range(64),
-        "Verify": [f"refused by state {state}" for state in STATE_NAMES if state != "7F"] + ["taken, state 7F", "refused by state before size", "over a record with trials or baud", "a run is open"]
+        "Verify": ["refused by state FF", "refused by state 3F"] + [f"taken, state {state}" for state in ODD_OR_UPDATING] + ["refused by state before size", "over a record with trials or baud", "a run is open"]
         + [f"{key}, size {n}" for key in ("no key", "a key") for n in ("0", "1", "capacity", "capacity + 1", "above 16 bits")] + [f"a key, size {n}" for n in range(2, 11)]
         + [f"a key, {what}" for what in ("at no multiple of 4", "its place below 0", "right", "in the last place", "right but at no multiple of 4", *(f"wrong in byte {n}" for n in range(4)))],
         "Info": [f"size {n}" for n in ("0", "1", "2", "3", "capacity - 1", "capacity", "capacity + 1", "capacity + 2", "none", "elsewhere, below", "elsewhere, above")]

@@ -7,20 +7,20 @@ use native.Mathlib.Nat.{dvd-trans, dvd-add, mod-eq-zero-of-dvd, dvd-of-mod-eq-ze
 use native.Mathlib.Omega.{arith}
 use lib.ListN.{length, set}
 use lib.Dec.{leb, ltb, eqb}
-use borrow.Author.Tests.{lt-ltb, le-ltb, ltb-true, leb-true, leb-false, eq-eqb, ne-eqb, eqb-true, eqb-false, not-true, not-false}
+use borrow.Author.Tests.{lt-ltb, le-ltb, ltb-true, leb-true, eq-eqb, ne-eqb, eqb-true, eqb-false, not-true}
 use Rattle.laws.specs.Pick.{pick}
 use Rattle.laws.proofs.Bools.{and-both}
 use Rattle.store_flash.specs.declared.storage.Stored.{Stored}
 use Rattle.store_flash.specs.Flash.{leaves, storedNumber, unaligned}
 use Rattle.store_flash.specs.Flash as flash
 use Rattle.store_record.specs.State.{stateRead}
-use Rattle.store_record.specs.Record.{stateOf, refreshed, advanced, advanceAnswer, updating, validating}
+use Rattle.store_record.specs.Record.{stateOf, refreshed, advanced, updating, validating}
 use Rattle.store_flash.proofs.Flash.{erased-length}
 use Rattle.store_flash.proofs.Answers.{erase-all}
 use Rattle.store_record.proofs.States.{idle-only, idle-rest}
-use Rattle.store_record.proofs.Record.{answer-above, stepped-above, advanced-refused, advanced-length, refreshed-length}
+use Rattle.store_record.proofs.Record.{advanced-length, refreshed-length}
 use Rattle.wire_frames.specs.Fields.{addrOf, Ok, WriteError, AddrOutOfBounds}
-use Rattle.cmd_erase.specs.Erase.{Erased, byteCountOf, rangeFits, readied, stuck, erasedTo, carried, eraseOf}
+use Rattle.cmd_erase.specs.Erase.{Erased, byteCountOf, rangeFits, readied, erasedTo, carried, eraseOf}
 
 -- the address a and the count n apart from the frame
 tested : (erase capacity : ℕ) (f : List ℕ) (a n : ℕ) → a ≡ addrOf f → n ≡ byteCountOf f →
@@ -50,83 +50,38 @@ module _ (erase capacity : ℕ) (f : List ℕ) (a n : ℕ) (ea : a ≡ addrOf f)
         pub fits-end : (n ≡ 0 → ⊥) → leb (a + n) capacity ≡ rangeFits erase capacity f
         fits-end z = simp (some, eq-eqb (a % erase) 0 p, eq-eqb (n % erase) 0 q, ne-eqb n 0 z) at (tested erase capacity f a n ea en)
 
-not-not : (b : Bool) → b ≡ not (not b)
-not-not true = refl
-not-not false = refl
-
 -- s is the state as it was read
 module _ (meta : List ℕ) (s : ℕ) (e : s ≡ stateRead (stateOf meta)) where
-  pub ready-idle : s ≡ 0xFF → (r : Bool) (n : ℕ) → r ≡ eqb n 0 → n ≡ advanceAnswer meta → (r ≡ not (stuck meta)) × (advanced meta ≡ readied meta)
-  unfolding stuck readied
-  ready-idle w r n k a = (rw (← e, w, k, ← a) (not-not (eqb n 0)), rw (← e, w) refl)
+  pub ready-idle : s ≡ 0xFF → advanced meta ≡ readied meta
+  unfolding readied
+  ready-idle w = rw (← e, w) refl
 
-  pub ready-updating : s ≡ 0x7F → (true ≡ not (stuck meta)) × (meta ≡ readied meta)
-  unfolding stuck readied
-  ready-updating w = (rw (← e, w) refl, rw (← e, w) refl)
+  pub ready-updating : s ≡ 0x7F → meta ≡ readied meta
+  unfolding readied
+  ready-updating w = rw (← e, w) refl
 
-  pub ready-validating : s ≡ 0x3F → (true ≡ not (stuck meta)) × (refreshed meta 0xFFFF 0x7F 0xFFFFFFFF ≡ readied meta)
-  unfolding stuck readied
-  ready-validating w = (rw (← e, w) refl, rw (← e, w) refl)
+  pub ready-validating : s ≡ 0x3F → refreshed meta 0xFFFF 0x7F 0xFFFFFFFF ≡ readied meta
+  unfolding readied
+  ready-validating w = rw (← e, w) refl
 
--- the state is stepped only from Idle, whose byte is 0xFF, and there the step succeeds
-pub erase-steps : (meta : List ℕ) → updating meta ≡ false → validating meta ≡ false →
-    (stateOf meta ≡ 0xFF) × (advanceAnswer meta ≡ 0) × (readied meta ≡ set meta 0 0x7F)
+-- the state is stepped only from Idle, whose byte is 0xFF, and there the step gives Updating's
+pub erase-steps : (meta : List ℕ) → updating meta ≡ false → validating meta ≡ false → (stateOf meta ≡ 0xFF) × (readied meta ≡ set meta 0 0x7F)
 unfolding readied
 erase-steps meta u v =
     let i = idle-only (stateOf meta) (idle-rest (stateOf meta) u v) in
-    let h : 0x3F < stateOf meta = omega (arith, i .0) in
-    (i .0, answer-above 0x3F 1 (stateOf meta) h, rw (u, v, stepped-above 0x3F (stateOf meta) h, i .1) refl)
-
--- so no record is stuck
-pub never-stuck : (meta : List ℕ) → stuck meta ≡ false
-unfolding stuck
-never-stuck meta = go (updating meta) (validating meta) refl refl
-  where
-    go : (u v : Bool) → updating meta ≡ u → validating meta ≡ v → not u && (not v && not (eqb (advanceAnswer meta) 0)) ≡ false
-    go true v p q = refl
-    go false true p q = refl
-    go false false p q = rw (erase-steps meta p q .1) refl
-
--- a record that is stuck is kept: its state byte is not above the floor
-pub stuck-kept : (meta : List ℕ) → stuck meta ≡ true → readied meta ≡ meta
-unfolding stuck readied
-stuck-kept meta = go (updating meta) (validating meta) (eqb (advanceAnswer meta) 0) refl
-  where
-    low : eqb (advanceAnswer meta) 0 ≡ false → advanced meta ≡ meta
-    low z = floor (leb (stateOf meta) 0x3F) refl
-      where
-        floor : (t : Bool) → leb (stateOf meta) 0x3F ≡ t → advanced meta ≡ meta
-        floor true w = advanced-refused meta (leb-true _ _ w)
-        floor false w = absurd (eqb-false _ _ z (answer-above 0x3F 1 (stateOf meta) (leb-false _ _ w)))
-
-    go : (u v t : Bool) → eqb (advanceAnswer meta) 0 ≡ t → not u && (not v && not t) ≡ true →
-        pick u meta (pick v (refreshed meta 0xFFFF 0x7F 0xFFFFFFFF) (advanced meta)) ≡ meta
-    go true v t w h = refl
-    go false true t w h = let z : _≡_ {A = ℕ} 0 1 = cc in absurd (omega arith)
-    go false false true w h = let z : _≡_ {A = ℕ} 0 1 = cc in absurd (omega arith)
-    go false false false w h = low w
+    (i .0, rw (u, v, i .1) refl)
 
 module _ (page erase capacity : ℕ) (f cells meta : List ℕ) (b : Bool) (e : b ≡ rangeFits erase capacity f) where
   pub erase-outside : b ≡ false → erasedTo AddrOutOfBounds cells meta ≡ eraseOf page erase capacity f cells meta
   unfolding eraseOf
   erase-outside w = simp (← e, w)
 
-  -- m is the record once it is ready, r whether it is
-  module _ (w : b ≡ true) (r : Bool) (m : List ℕ) (k : (r ≡ not (stuck meta)) × (m ≡ readied meta)) where
-    pub erase-stuck : r ≡ false → erasedTo WriteError cells m ≡ eraseOf page erase capacity f cells meta
-    unfolding eraseOf
-    erase-stuck h =
-        let s : stuck meta ≡ true = not-false (stuck meta) (sym (k .0) ∙ h) in
-        rw (k .1, stuck-kept meta s, ← e, w, s) refl
-
-    -- s is the storage's answer, x the cells that it leaves, t the status that the answer stands for
-    pub erase-carried : r ≡ true → (a n : ℕ) → a ≡ addrOf f → n ≡ byteCountOf f → (s : Stored) (x : List ℕ) →
-        leaves s x ≡ flash.pagesErased page cells a (a + n) →
-        (t : ℕ) → t ≡ pick (eqb (storedNumber s) 0) Ok WriteError → erasedTo t x m ≡ eraseOf page erase capacity f cells meta
-    unfolding eraseOf
-    erase-carried h a n ea en s x l t q =
-        let z : stuck meta ≡ false = not-true (stuck meta) (sym (k .0) ∙ h) in
-        rw (← e, w, z, ← ea, ← en, ← l, q, k .1) refl
+  -- m is the record once it is ready, s the storage's answer, x the cells that it leaves, t the status that the answer stands for
+  pub erase-carried : b ≡ true → (m : List ℕ) → m ≡ readied meta → (a n : ℕ) → a ≡ addrOf f → n ≡ byteCountOf f → (s : Stored) (x : List ℕ) →
+      leaves s x ≡ flash.pagesErased page cells a (a + n) →
+      (t : ℕ) → t ≡ pick (eqb (storedNumber s) 0) Ok WriteError → erasedTo t x m ≡ eraseOf page erase capacity f cells meta
+  unfolding eraseOf
+  erase-carried w m k a n ea en s x l t q = rw (← e, w, ← ea, ← en, ← l, q, k) refl
 
 -- a number that the erase size divides is a multiple of the page too
 whole : (page erase x : ℕ) → erase % page ≡ 0 → x % erase ≡ 0 → x % page ≡ 0
@@ -171,19 +126,17 @@ module _ (page erase capacity : ℕ) (f cells : List ℕ) (d : erase % page ≡ 
       rw (e (addrOf f) (byteCountOf f)) at
       (erase-all page cells (addrOf f) (addrOf f + byteCountOf f) p (whole-end page (addrOf f) (byteCountOf f) p q) (rw (← l) at (g .most)))
 
-  -- so an Erase that fits is Ok, unless the record is stuck
+  -- so an Erase that fits is Ok
   pub erase-good : (meta : List ℕ) → eraseOf page erase capacity f cells meta ≡
       pick (not (rangeFits erase capacity f)) (erasedTo AddrOutOfBounds cells meta)
-      (pick (stuck meta) (erasedTo WriteError cells meta) (erasedTo Ok (flash.erased cells (addrOf f) (byteCountOf f)) (readied meta)))
+      (erasedTo Ok (flash.erased cells (addrOf f) (byteCountOf f)) (readied meta))
   unfolding eraseOf
   erase-good meta = go (rangeFits erase capacity f) refl
     where
       go : (b : Bool) → rangeFits erase capacity f ≡ b →
           pick (not b) (erasedTo AddrOutOfBounds cells meta)
-          (pick (stuck meta) (erasedTo WriteError cells meta)
-          (carried (flash.pagesErased page cells (addrOf f) (addrOf f + byteCountOf f)) (readied meta)))
-          ≡ pick (not b) (erasedTo AddrOutOfBounds cells meta)
-          (pick (stuck meta) (erasedTo WriteError cells meta) (erasedTo Ok (flash.erased cells (addrOf f) (byteCountOf f)) (readied meta)))
+          (carried (flash.pagesErased page cells (addrOf f) (addrOf f + byteCountOf f)) (readied meta))
+          ≡ pick (not b) (erasedTo AddrOutOfBounds cells meta) (erasedTo Ok (flash.erased cells (addrOf f) (byteCountOf f)) (readied meta))
       go true h = rw (erase-taken h) refl
       go false h = refl
 
@@ -210,26 +163,23 @@ readied-length meta = go (updating meta) (validating meta)
     go false false = advanced-length meta
 
 module _ (page erase capacity : ℕ) (f cells meta : List ℕ) where
-  either : (b s : Bool) → Erased
-  either b s =
+  either : Bool → Erased
+  either b =
       pick (not b) (erasedTo AddrOutOfBounds cells meta)
-      (pick s (erasedTo WriteError cells meta)
-      (carried (flash.pagesErased page cells (addrOf f) (addrOf f + byteCountOf f)) (readied meta)))
+      (carried (flash.pagesErased page cells (addrOf f) (addrOf f + byteCountOf f)) (readied meta))
 
   pub erase-flash-length : length (eraseOf page erase capacity f cells meta .flash) ≡ length cells
   unfolding eraseOf either
-  erase-flash-length = go (rangeFits erase capacity f) (stuck meta)
+  erase-flash-length = go (rangeFits erase capacity f)
     where
-      go : (b s : Bool) → length (either b s .flash) ≡ length cells
-      go true true = refl
-      go true false = left-length page cells (addrOf f) (addrOf f + byteCountOf f)
-      go false s = refl
+      go : (b : Bool) → length (either b .flash) ≡ length cells
+      go true = left-length page cells (addrOf f) (addrOf f + byteCountOf f)
+      go false = refl
 
   pub erase-meta-length : length (eraseOf page erase capacity f cells meta .meta) ≡ length meta
   unfolding eraseOf either
-  erase-meta-length = go (rangeFits erase capacity f) (stuck meta)
+  erase-meta-length = go (rangeFits erase capacity f)
     where
-      go : (b s : Bool) → length (either b s .meta) ≡ length meta
-      go true true = refl
-      go true false = readied-length meta
-      go false s = refl
+      go : (b : Bool) → length (either b .meta) ≡ length meta
+      go true = readied-length meta
+      go false = refl

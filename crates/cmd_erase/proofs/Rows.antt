@@ -6,10 +6,9 @@ use lib.ListN.{replicate}
 use Rattle.store_record.specs.State.{stateRead}
 use Rattle.store_flash.specs.Flash.{erased}
 use Rattle.store_flash.specs.Flash as flash
-use Rattle.store_record.specs.Record.{stepped, stepAnswer}
 use Rattle.wire_frames.proofs.Samples.{frame}
 use Rattle.store_record.proofs.Samples.{bare, waiting}
-use Rattle.cmd_erase.specs.Erase.{rangeFits, readied, stuck, erasedTo, eraseOf}
+use Rattle.cmd_erase.specs.Erase.{rangeFits, readied, erasedTo, eraseOf}
 
 abbrev zeros : List ℕ
 zeros = replicate {A = ℕ} 128 0
@@ -22,5 +21,5 @@ pub row12 : (eraseOf 64 64 128 (frame 64 0 0) zeros (bare 0xFF) ≡ erasedTo 4 z
     (eraseOf 64 64 128 (frame 64 0 64) zeros (bare 0xFF) ≡ erasedTo 1 (replicate {A = ℕ} 64 0 ++ replicate {A = ℕ} 64 0xFF) (bare 0x7F)) ×
     (eraseOf 64 64 128 (frame 0 0 64) zeros waiting ≡ erasedTo 1 (replicate {A = ℕ} 64 0xFF ++ replicate {A = ℕ} 64 0) (bare 0x7F)) ×
     (eraseOf 64 64 128 (frame 0 0 64) zeros (bare 0x1F) ≡ erasedTo 1 (replicate {A = ℕ} 64 0xFF ++ replicate {A = ℕ} 64 0) (bare 0x1F))
-unfolding eraseOf rangeFits readied stuck stateRead stepped stepAnswer erased flash.pagesErased
+unfolding eraseOf rangeFits readied stateRead erased flash.pagesErased
 row12 = (refl, refl, refl, refl, refl, refl)

@@ -8,7 +8,7 @@ use Rattle.laws.specs.Pick.{if_then_else_}
 use Rattle.laws.specs.Low.{lowFirst}
 use Rattle.store_flash.specs.Flash.{Cells}
 use Rattle.store_flash.specs.Flash as flash
-use Rattle.store_record.specs.Record.{stateOf, refreshed, advanced, advanceAnswer, updating, validating}
+use Rattle.store_record.specs.Record.{refreshed, advanced, updating, validating}
 use Rattle.wire_frames.specs.Fields.{addrOf, Ok, WriteError, AddrOutOfBounds}
 
 -- what an Erase leaves
@@ -33,13 +33,9 @@ rangeFits erase capacity f =
     (not (eqb (byteCountOf f) 0) &&
     leb (addrOf f + byteCountOf f) capacity)))
 
--- the record once it is ready for the erase, and whether that failed: Updating is, Validating is rewritten as Updating with no image, Idle is stepped down
--- (which the Rust's floor may refuse: docs/DECISIONS.md)
+-- the record once it is ready for the erase: Updating is, Validating is rewritten as Updating with no image, Idle is stepped down
 unfoldable pub readied : List ℕ → List ℕ
 readied meta = if updating meta then meta else if validating meta then refreshed meta 0xFFFF 0x7F 0xFFFFFFFF else advanced meta
-
-unfoldable pub stuck : List ℕ → Bool
-stuck meta = not (updating meta) && (not (validating meta) && not (eqb (advanceAnswer meta) 0))
 
 -- then the range is erased; what the storage refuses is a WriteError
 abbrev pub carried : Cells → List ℕ → Erased
@@ -48,5 +44,4 @@ carried left meta = erasedTo (if eqb (left .answer) 0 then Ok else WriteError) (
 unfoldable pub eraseOf : ℕ → ℕ → ℕ → List ℕ → List ℕ → List ℕ → Erased
 eraseOf page erase capacity f cells meta =
     if not (rangeFits erase capacity f) then erasedTo AddrOutOfBounds cells meta else
-    if stuck meta then erasedTo WriteError cells meta else
     carried (flash.pagesErased page cells (addrOf f) (addrOf f + byteCountOf f)) (readied meta)

@@ -9,13 +9,12 @@ use wire_frames::frame::FrameBytes;
 use wire_numbers::Status;
 use wire_numbers::le;
 ghost use mathlib.Core.Path.{_≡_};
-ghost use mathlib.Core.Bool.{not};
 ghost use lib.Dec.{eqb};
 ghost use Rattle.laws.specs.Pick.{pick};
 ghost use Rattle.wire_numbers.specs.Names.{statusNumber};
 ghost use Rattle.store_flash.specs.Flash.{storedNumber};
 ghost use Rattle.wire_frames.specs.Fields.{Ok, WriteError};
-ghost use Rattle.cmd_erase.specs.Erase.{byteCountOf, rangeFits, stuck, readied, erasedTo, eraseOf};
+ghost use Rattle.cmd_erase.specs.Erase.{byteCountOf, rangeFits, readied, erasedTo, eraseOf};
 
 // How many bytes, also of a frame with less data.
 fn byte_count(f: &FrameBytes) -> u16
@@ -45,18 +44,17 @@ fn in_range(erase_size: usize, capacity: usize, f: &FrameBytes) -> bool
     addr + count <= capacity
 }
 
-// The record says Updating before a cell is erased; whether it could be made to.
-fn ready(meta: &mut [u8]) -> bool
-    ensures { λ r. ⌜ (r ≡ not (stuck (now (meta .entry)))) × (now (meta .exit) ≡ readied (now (meta .entry))) ⌝ }
+// The record says Updating before a cell is erased.
+fn ready(meta: &mut [u8])
+    ensures { λ r. ⌜ now (meta .exit) ≡ readied (now (meta .entry)) ⌝ }
 {
     let state = boot_meta_store::boot_state(meta);
     match state {
-        BootState::Idle => boot_meta_store::advance(meta).done(),
+        BootState::Idle => boot_meta_store::advance(meta),
         BootState::Validating => {
-            boot_meta_store::refresh(meta, 0xFFFF, BootState::Updating, 0xFFFF_FFFF);
-            true
+            boot_meta_store::refresh(meta, 0xFFFF, BootState::Updating, 0xFFFF_FFFF)
         }
-        BootState::Updating => true,
+        BootState::Updating => {}
     }
 }
 
@@ -84,9 +82,7 @@ pub fn cmd_erase(
     if !in_range(erase_size, capacity, f) {
         return Status::AddrOutOfBounds;
     }
-    if !ready(meta) {
-        return Status::WriteError;
-    }
+    ready(meta);
     let addr = fields::addr(f) as usize;
     let count = byte_count(f) as usize;
     status_of(storage::erase(flash, addr, addr + count))

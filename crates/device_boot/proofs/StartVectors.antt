@@ -7,7 +7,6 @@ use lib.ListN.{replicate}
 use Rattle.laws.specs.Fold.{fold}
 use Rattle.wire_numbers.specs.Crc.{entered, bits, bitsOf, crcFrom}
 use Rattle.store_record.specs.State.{stateRead, appPresent}
-use Rattle.store_record.specs.Record.{stepped}
 use Rattle.device_boot.specs.Start.{validOf, triedOf, clearedOf, startOf}
 
 record Case : Type 0 where
@@ -51,5 +50,5 @@ starts =
     []
 
 starts-hold : held starts
-unfolding startOf clearedOf triedOf validOf appPresent stateRead stepped crcFrom bitsOf bits entered fold
+unfolding startOf clearedOf triedOf validOf appPresent stateRead crcFrom bitsOf bits entered fold
 starts-hold = (refl, (refl, (refl, (refl, (refl, (refl, (refl, (refl, (refl, (refl, (refl, tt)))))))))))

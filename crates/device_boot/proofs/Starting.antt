@@ -7,13 +7,13 @@ use mathlib.Core.Logic.{_⊎_, inl, inr, ⊎-elim}
 use native.Mathlib.Omega.{arith}
 use borrow.Author.Tests.{eq-eqb, ne-eqb, le-leb, lt-leb, eqb-true, eqb-false}
 use Rattle.laws.specs.Pick.{pick}
-use Rattle.store_record.proofs.Record.{answer-above, stepped-above, trial-refused}
+use Rattle.store_record.proofs.Record.{none-kept}
 use Rattle.store_record.proofs.Bytes.{one-less}
 use lib.ListN.{take, set}
 use lib.Dec.{leb, eqb}
 use Rattle.wire_numbers.specs.Crc.{crcOf}
 use Rattle.store_record.specs.State.{stateRead, appPresent}
-use Rattle.store_record.specs.Record.{stateOf, trialsOf, checksumOf, sizeOf, half, startsLeft, trialAnswer, trialUsed}
+use Rattle.store_record.specs.Record.{stateOf, trialsOf, checksumOf, sizeOf, half, startsLeft, trialUsed}
 use Rattle.device_boot.specs.Start.{validOf, Clearance, clears, triedOf, clearedOf, Decision, stays, checkedOf, startOf}
 
 module _ (capacity : ℕ) (flash meta : List ℕ) where
@@ -43,15 +43,10 @@ module _ (meta : List ℕ) where
   unfolding triedOf
   tried-none b w e = simp (not-off (eqb (trialsOf meta) 0) (sym e ∙ w))
 
-  -- a trial that is left is used: the step's answer, n, is 0
-  pub tried-one : (b : Bool) → b ≡ true → b ≡ not (eqb (trialsOf meta) 0) → (r : Bool) (n : ℕ) → r ≡ eqb n 0 → n ≡ trialAnswer meta →
-      clears r (trialUsed meta) ≡ triedOf meta
+  -- a trial that is left is used
+  pub tried-one : (b : Bool) → b ≡ true → b ≡ not (eqb (trialsOf meta) 0) → (m : List ℕ) → m ≡ trialUsed meta → clears true m ≡ triedOf meta
   unfolding triedOf
-  tried-one b w e r n k a =
-      let z : eqb (trialsOf meta) 0 ≡ false = not-on (eqb (trialsOf meta) 0) (sym e ∙ w) in
-      let x : trialsOf meta ≡ 0 → ⊥ = eqb-false _ _ z in
-      let y : n ≡ 0 = a ∙ answer-above 0 2 (trialsOf meta) (omega arith) in
-      rw (k, y, z) refl
+  tried-one b w e m k = rw (k, not-on (eqb (trialsOf meta) 0) (sym e ∙ w)) refl
 
   module _ (s : ℕ) (e : s ≡ stateRead (stateOf meta)) where
     pub clear-updating : s ≡ 0x7F → clears false meta ≡ clearedOf meta
@@ -110,17 +105,14 @@ start-record capacity mode flash meta =
 -- a trial is taken only where one is left, and then one fewer is
 pub start-trial : (capacity mode : ℕ) (flash meta : List ℕ) → trialsOf meta < 256 →
     (startOf capacity mode flash meta .meta ≡ meta) ⊎
-    ((trialsOf meta ≡ 0 → ⊥) × (trialAnswer meta ≡ 0) × (startsLeft (half (trialsOf meta)) + 1 ≡ startsLeft (trialsOf meta)) ×
-    (startOf capacity mode flash meta .meta ≡ set meta 1 (half (trialsOf meta))))
+    ((trialsOf meta ≡ 0 → ⊥) × (startOf capacity mode flash meta .meta ≡ trialUsed meta) ×
+    (startsLeft (half (trialsOf meta)) + 1 ≡ startsLeft (trialsOf meta)))
 start-trial capacity mode flash meta h = go (eqb (trialsOf meta) 0) refl
   where
     go : (n : Bool) → eqb (trialsOf meta) 0 ≡ n → (startOf capacity mode flash meta .meta ≡ meta) ⊎
-        ((trialsOf meta ≡ 0 → ⊥) × (trialAnswer meta ≡ 0) × (startsLeft (half (trialsOf meta)) + 1 ≡ startsLeft (trialsOf meta)) ×
-        (startOf capacity mode flash meta .meta ≡ set meta 1 (half (trialsOf meta))))
-    go true e = inl (⊎-elim (λ x. x) (λ x. x ∙ trial-refused meta (eqb-true _ _ e)) (start-record capacity mode flash meta))
+        ((trialsOf meta ≡ 0 → ⊥) × (startOf capacity mode flash meta .meta ≡ trialUsed meta) ×
+        (startsLeft (half (trialsOf meta)) + 1 ≡ startsLeft (trialsOf meta)))
+    go true e = inl (⊎-elim (λ x. x) (λ x. x ∙ none-kept meta (eqb-true _ _ e)) (start-record capacity mode flash meta))
     go false e =
         let z : trialsOf meta ≡ 0 → ⊥ = eqb-false _ _ e in
-        let p : 0 < trialsOf meta = omega arith in
-        ⊎-elim (λ x. inl x)
-        (λ x. inr (z, answer-above 0 2 (trialsOf meta) p, one-less (trialsOf meta) h z, x ∙ ap (set meta 1) (stepped-above 0 (trialsOf meta) p)))
-        (start-record capacity mode flash meta)
+        ⊎-elim (λ x. inl x) (λ x. inr (z, x, one-less (trialsOf meta) h z)) (start-record capacity mode flash meta)

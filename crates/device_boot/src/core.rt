@@ -30,7 +30,8 @@ fn use_trial(meta: &mut [u8]) -> bool
     ensures { λ r. ⌜ clears r (now (meta .exit)) ≡ triedOf (now (meta .entry)) ⌝ }
 {
     if boot_meta_store::has_trials(meta) {
-        return boot_meta_store::consume_trial(meta).done();
+        boot_meta_store::consume_trial(meta);
+        return true;
     }
     false
 }

@@ -1,36 +1,15 @@
 -- What callers use of the record of 12 bytes: every field after each change, its length, and the worked steps.
-use mathlib.Core.Path.{_≡_, refl, sym, ap₂, _∙_}
+use mathlib.Core.Path.{_≡_, refl, ap₂, _∙_}
 use mathlib.Core.List.{List, [], _∷_, _++_}
-use mathlib.Core.Bool.{Bool, true, false}
 use Prim.Native.Nat.{ℕ, _≤_, _<_, _/_}
-use native.Mathlib.Nat.{mod-eq-of-lt, le-refl}
-use lib.Dec.{leb, ltb}
+use native.Mathlib.Nat.{mod-eq-of-lt}
 use lib.Bits.{and-le-l}
-use Rattle.laws.specs.Pick.{pick}
 use native.Mathlib.Omega.{arith}
 use lib.ListN.{length, getD, set, length-set}
 use lib.Seq.{length-sets, set-getD}
-use borrow.Author.Tests.{le-leb, lt-leb, ltb-true, ltb-false}
 use Rattle.laws.specs.Low.{lowFirst, lowBytes}
 use Rattle.laws.proofs.Low.{low-read}
-use Rattle.store_record.specs.declared.boot_meta_store.Step.{Step}
-use Rattle.store_record.specs.Record.{
-  left,
-  stepNumber,
-  stateOf,
-  trialsOf,
-  checksumOf,
-  sizeOf,
-  baudOf,
-  reservedOf,
-  refreshed,
-  baudSet,
-  half,
-  stepped,
-  stepAnswer,
-  advanced,
-  trialUsed,
-}
+use Rattle.store_record.specs.Record.{stateOf, trialsOf, checksumOf, sizeOf, baudOf, reservedOf, refreshed, baudSet, half, advanced, trialUsed}
 
 -- all that a record says, by name
 pub record Fields : Type 0 where
@@ -100,12 +79,12 @@ baud-cells : {m : List ℕ} → Whole m → (v : ℕ) → fieldsOf (set m 8 v)
 baud-cells (cells a b c d e f g h i j k l) v = refl
 
 pub advanced-fields : (m : List ℕ) → length m ≡ 12 → fieldsOf (advanced m)
-    ≡ record { state = stepped 0x3F (stateOf m); trials = trialsOf m; checksum = checksumOf m; size = sizeOf m; baud = baudOf m; reserved = reservedOf m }
-advanced-fields m n = state-cells (whole m n) (stepped 0x3F (stateOf m))
+    ≡ record { state = half (stateOf m); trials = trialsOf m; checksum = checksumOf m; size = sizeOf m; baud = baudOf m; reserved = reservedOf m }
+advanced-fields m n = state-cells (whole m n) (half (stateOf m))
 
 pub trial-fields : (m : List ℕ) → length m ≡ 12 → fieldsOf (trialUsed m)
-    ≡ record { state = stateOf m; trials = stepped 0 (trialsOf m); checksum = checksumOf m; size = sizeOf m; baud = baudOf m; reserved = reservedOf m }
-trial-fields m n = trials-cells (whole m n) (stepped 0 (trialsOf m))
+    ≡ record { state = stateOf m; trials = half (trialsOf m); checksum = checksumOf m; size = sizeOf m; baud = baudOf m; reserved = reservedOf m }
+trial-fields m n = trials-cells (whole m n) (half (trialsOf m))
 
 pub baud-fields : (m : List ℕ) (baud : ℕ) → length m ≡ 12 → fieldsOf (baudSet m baud)
     ≡ record { state = stateOf m; trials = trialsOf m; checksum = checksumOf m; size = sizeOf m; baud = baud; reserved = reservedOf m }
@@ -116,86 +95,26 @@ pub refreshed-length : (m : List ℕ) (checksum state size : ℕ) → length (re
 refreshed-length m checksum state size = length-sets m 0 (state ∷ 0xFF ∷ (lowBytes 2 checksum ++ lowBytes 4 size))
 
 pub advanced-length : (m : List ℕ) → length (advanced m) ≡ length m
-advanced-length m = length-set m 0 (stepped 0x3F (stateOf m))
+advanced-length m = length-set m 0 (half (stateOf m))
 
 pub trial-length : (m : List ℕ) → length (trialUsed m) ≡ length m
-trial-length m = length-set m 1 (stepped 0 (trialsOf m))
+trial-length m = length-set m 1 (half (trialsOf m))
 
 pub baud-length : (m : List ℕ) (baud : ℕ) → length (baudSet m baud) ≡ length m
 baud-length m baud = length-set m 8 baud
 
--- an answer is known by its number
-pub step-injective : (s t : Step) → stepNumber s ≡ stepNumber t → s ≡ t
-step-injective Step.Done Step.Done e = refl
-step-injective Step.Done Step.InvalidTransition e = absurd (omega arith)
-step-injective Step.Done Step.TrialsExhausted e = absurd (omega arith)
-step-injective Step.InvalidTransition Step.Done e = absurd (omega arith)
-step-injective Step.InvalidTransition Step.InvalidTransition e = refl
-step-injective Step.InvalidTransition Step.TrialsExhausted e = absurd (omega arith)
-step-injective Step.TrialsExhausted Step.Done e = absurd (omega arith)
-step-injective Step.TrialsExhausted Step.InvalidTransition e = absurd (omega arith)
-step-injective Step.TrialsExhausted Step.TrialsExhausted e = refl
-
--- above its floor a byte steps down; at or below it stays
-pub stepped-above : (floor x : ℕ) → floor < x → stepped floor x ≡ half x
-unfolding stepped
-stepped-above floor x h = simp (lt-leb x floor h)
-
-pub stepped-below : (floor x : ℕ) → x ≤ floor → stepped floor x ≡ x
-unfolding stepped
-stepped-below floor x h = simp (le-leb x floor h)
-
-pub answer-above : (floor refusal x : ℕ) → floor < x → stepAnswer floor refusal x ≡ 0
-unfolding stepAnswer
-answer-above floor refusal x h = simp (lt-leb x floor h)
-
-pub answer-below : (floor refusal x : ℕ) → x ≤ floor → stepAnswer floor refusal x ≡ refusal
-unfolding stepAnswer
-answer-below floor refusal x h = simp (le-leb x floor h)
-
 -- never above what it was: a byte stays a byte
-pub stepped-le : (floor x : ℕ) → stepped floor x ≤ x
-unfolding stepped
-stepped-le floor x = go (leb x floor)
-  where
-    go : (t : Bool) → pick t x (half x) ≤ x
-    go true = le-refl x
-    go false = and-le-l x (x / 2)
+pub half-le : (x : ℕ) → half x ≤ x
+half-le x = and-le-l x (x / 2)
 
--- Idle steps to Updating, Updating to Validating, and Validating not at all
-pub step-idle : stepped 0x3F 0xFF ≡ 0x7F
-unfolding stepped
-step-idle = refl
-
-pub step-updating : stepped 0x3F 0x7F ≡ 0x3F
-unfolding stepped
-step-updating = refl
-
-pub step-validating : stepped 0x3F 0x3F ≡ 0x3F
-unfolding stepped
-step-validating = refl
-
--- so a refusal changes nothing
-pub advanced-refused : (m : List ℕ) → stateOf m ≤ 0x3F → advanced m ≡ m
-advanced-refused m h = rw (stepped-below 0x3F (stateOf m) h) (set-getD m 0 0xFF)
-
-pub trial-refused : (m : List ℕ) → trialsOf m ≡ 0 → trialUsed m ≡ m
-trial-refused m h = rw (stepped-below 0 (trialsOf m) (omega arith)) (set-getD m 1 0xFF)
+-- with none left a trial would change nothing
+pub none-kept : (m : List ℕ) → trialsOf m ≡ 0 → trialUsed m ≡ m
+none-kept m h = let e : half (trialsOf m) ≡ trialsOf m = rw h refl in rw e (set-getD m 1 0xFF)
 
 -- bench row 9: trials 0xFF take eight steps to 0; 0xB0 gives 0x10, then 0
-pub row9-full : (stepped 0 0xFF ≡ 0x7F) × (stepped 0 0x7F ≡ 0x3F) × (stepped 0 0x3F ≡ 0x1F) × (stepped 0 0x1F ≡ 0x0F)
-    × (stepped 0 0x0F ≡ 0x07) × (stepped 0 0x07 ≡ 0x03) × (stepped 0 0x03 ≡ 0x01) × (stepped 0 0x01 ≡ 0x00)
-unfolding stepped
+pub row9-full : (half 0xFF ≡ 0x7F) × (half 0x7F ≡ 0x3F) × (half 0x3F ≡ 0x1F) × (half 0x1F ≡ 0x0F)
+    × (half 0x0F ≡ 0x07) × (half 0x07 ≡ 0x03) × (half 0x03 ≡ 0x01) × (half 0x01 ≡ 0x00)
 row9-full = (refl, refl, refl, refl, refl, refl, refl, refl)
 
-pub row9-gap : (stepped 0 0xB0 ≡ 0x10) × (stepped 0 0x10 ≡ 0)
-unfolding stepped
+pub row9-gap : (half 0xB0 ≡ 0x10) × (half 0x10 ≡ 0)
 row9-gap = (refl, refl)
-
--- the two ends of a step of the byte at `at`: b says whether it was taken
-module _ (floor refusal at : ℕ) (m m' : List ℕ) (b : Bool) (e : b ≡ ltb floor (getD m at 0xFF)) (w : m' ≡ set m at (stepped floor (getD m at 0xFF))) where
-  pub step-taken : b ≡ true → left 0 m' ≡ left (stepAnswer floor refusal (getD m at 0xFF)) (set m at (stepped floor (getD m at 0xFF)))
-  step-taken t = rw (w, answer-above floor refusal (getD m at 0xFF) (ltb-true _ _ (sym e ∙ t))) refl
-
-  pub step-left : b ≡ false → left refusal m' ≡ left (stepAnswer floor refusal (getD m at 0xFF)) (set m at (stepped floor (getD m at 0xFF)))
-  step-left t = rw (w, answer-below floor refusal (getD m at 0xFF) (ltb-false _ _ (sym e ∙ t))) refl

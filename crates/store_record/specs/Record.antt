@@ -6,10 +6,9 @@ use mathlib.Core.List.{List, [], _∷_, _++_}
 use lib.ListN.{getD, set, drop}
 use lib.Seq.{sets}
 use lib.Bits.{bitAnd}
-use lib.Dec.{leb, eqb}
+use lib.Dec.{eqb}
 use Rattle.laws.specs.Pick.{pick}
 use Rattle.laws.specs.Low.{lowFirst, lowBytes}
-use Rattle.store_record.specs.declared.boot_meta_store.Step.{Step}
 use Rattle.store_record.specs.State.{stateRead}
 
 -- the fields by their offsets, longer numbers low byte first
@@ -50,50 +49,13 @@ baudSet m baud = set m 8 baud
 abbrev pub half : ℕ → ℕ
 half x = bitAnd x (x / 2)
 
--- a byte above its floor is stepped down
-unfoldable pub stepped : ℕ → ℕ → ℕ
-stepped floor x = pick (leb x floor) x (half x)
-
--- the answers in the order of the enum: Done 0, and boot_meta_store.rs's InvalidTransition 1, TrialsExhausted 2
-abbrev pub stepNumber : Step → ℕ
-stepNumber Step.Done = 0
-stepNumber Step.InvalidTransition = 1
-stepNumber Step.TrialsExhausted = 2
-
--- the answer of a step: the refusal for a byte at or below its floor, which stays
-unfoldable pub stepAnswer : ℕ → ℕ → ℕ → ℕ
-stepAnswer floor refusal x = pick (leb x floor) refusal 0
-
--- the state stepped down (01, Commands, Erase); the floor is Validating's byte, as in boot_meta_store.rs
-abbrev pub advanceAnswer : List ℕ → ℕ
-advanceAnswer m = stepAnswer 0x3F 1 (stateOf m)
-
+-- the state stepped down (01, Commands, Erase)
 abbrev pub advanced : List ℕ → List ℕ
-advanced m = set m 0 (stepped 0x3F (stateOf m))
+advanced m = set m 0 (half (stateOf m))
 
--- a trial used; with none left, nothing changes
-abbrev pub trialAnswer : List ℕ → ℕ
-trialAnswer m = stepAnswer 0 2 (trialsOf m)
-
+-- a trial used
 abbrev pub trialUsed : List ℕ → List ℕ
-trialUsed m = set m 1 (stepped 0 (trialsOf m))
-
--- what a step leaves: the number of its answer, and the record
-pub record Stepped : Type 0 where
-  pub answer : ℕ
-  pub meta : List ℕ
-
-abbrev pub left : ℕ → List ℕ → Stepped
-left answer m = record { answer = answer; meta = m }
-
-abbrev pub stepsTo : Step → List ℕ → Stepped
-stepsTo s = left (stepNumber s)
-
-abbrev pub advanceOf : List ℕ → Stepped
-advanceOf m = left (advanceAnswer m) (advanced m)
-
-abbrev pub trialOf : List ℕ → Stepped
-trialOf m = left (trialAnswer m) (trialUsed m)
+trialUsed m = set m 1 (half (trialsOf m))
 
 -- the longest run among the d low bits of x, where the run under way has `run` ones
 unfoldable pub longest : ℕ → ℕ → ℕ → ℕ

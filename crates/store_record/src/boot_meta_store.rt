@@ -7,25 +7,10 @@ use store_flash::cells::put;
 use wire_numbers::le;
 ghost use mathlib.Core.Path.{_≡_};
 ghost use mathlib.Core.Bool.{not};
-ghost use lib.Dec.{ltb, eqb};
+ghost use lib.Dec.{eqb};
 ghost use lib.ListN.{getD, set};
 ghost use Rattle.store_record.specs.State.{stateByte, stateRead};
-ghost use Rattle.store_record.specs.Record.{
-  stepNumber,
-  stateOf,
-  updating,
-  trialsOf,
-  checksumOf,
-  sizeOf,
-  baudOf,
-  stepped,
-  stepsTo,
-  advanceOf,
-  trialOf,
-  baudSet,
-  refreshed,
-  startsLeft,
-};
+ghost use Rattle.store_record.specs.Record.{stateOf, updating, trialsOf, checksumOf, sizeOf, baudOf, half, advanced, trialUsed, baudSet, refreshed, startsLeft};
 
 // Where the fields stand; 9 to 11 are reserved, and kept.
 const STATE: usize = 0;
@@ -37,24 +22,6 @@ const CHECKSUM: usize = 2;
 const SIZE: usize = 4;
 
 const BAUD: usize = 8;
-
-pub enum Step {
-    Done,
-    InvalidTransition,
-    TrialsExhausted,
-}
-
-impl Step {
-    pub fn done(self) -> bool
-        ensures { λ r. ⌜ r ≡ eqb (stepNumber self) 0 ⌝ }
-    {
-        match self {
-            Step::Done => true,
-            Step::InvalidTransition => false,
-            Step::TrialsExhausted => false,
-        }
-    }
-}
 
 pub fn boot_state(meta: &[u8]) -> BootState
     ensures { λ r. ⌜ stateByte r ≡ stateRead (stateOf (now (meta .entry))) ⌝ }
@@ -110,36 +77,24 @@ pub fn set_baud(meta: &mut [u8], baud: u8)
     put(meta, BAUD, baud);
 }
 
-// One byte above its floor loses a 1; whether it did.
-fn step_down(meta: &mut [u8], at: usize, floor: u8) -> bool
-    ensures { λ r. ⌜ (r ≡ ltb floor (getD (now (meta .entry)) at 0xFF)) ×
-        (now (meta .exit) ≡ set (now (meta .entry)) at (stepped floor (getD (now (meta .entry)) at 0xFF))) ⌝ }
+// One byte loses a 1: a single store.
+fn step_down(meta: &mut [u8], at: usize)
+    ensures { λ r. ⌜ now (meta .exit) ≡ set (now (meta .entry)) at (half (getD (now (meta .entry)) at 0xFF)) ⌝ }
 {
     let x = byte_at(meta, at);
-    if x <= floor {
-        return false;
-    }
     put(meta, at, x & (x >> 1));
-    true
 }
 
-// The floor is Validating's byte.
-pub fn advance(meta: &mut [u8]) -> Step
-    ensures { λ r. ⌜ stepsTo r (now (meta .exit)) ≡ advanceOf (now (meta .entry)) ⌝ }
+pub fn advance(meta: &mut [u8])
+    ensures { λ r. ⌜ now (meta .exit) ≡ advanced (now (meta .entry)) ⌝ }
 {
-    if step_down(meta, STATE, 0x3F) {
-        return Step::Done;
-    }
-    Step::InvalidTransition
+    step_down(meta, STATE);
 }
 
-pub fn consume_trial(meta: &mut [u8]) -> Step
-    ensures { λ r. ⌜ stepsTo r (now (meta .exit)) ≡ trialOf (now (meta .entry)) ⌝ }
+pub fn consume_trial(meta: &mut [u8])
+    ensures { λ r. ⌜ now (meta .exit) ≡ trialUsed (now (meta .entry)) ⌝ }
 {
-    if step_down(meta, TRIALS, 0) {
-        return Step::Done;
-    }
-    Step::TrialsExhausted
+    step_down(meta, TRIALS);
 }
 
 // A rewrite: the trials start anew, the baud and the reserved bytes are kept.

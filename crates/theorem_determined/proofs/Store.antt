@@ -3,7 +3,6 @@ use denote.Ref.{now}
 use Rattle.theorem_determined.specs.Determined.{Determined, DeterminedBehind}
 use Rattle.theorem_determined.proofs.Apart.{plain, state-apart}
 use Rattle.store_flash.proofs.Answers.{stored-injective}
-use Rattle.store_record.proofs.Record.{step-injective}
 use Rattle.store_flash.proofs as store_flash
 use Rattle.store_record.proofs as «store_record»
 
@@ -35,9 +34,6 @@ erase κs a o o' p q i =
     let e = plain p q in
     (stored-injective (o .0) (o' .0) (λ j. e j .answer) i, (e i .cells, (tt, (tt, tt))))
 
-pub done : Determined «store_record».boot_meta_store.Step.done.ended «store_record».boot_meta_store.Step.done.Reads.Post
-done κs a o o' p q i = (plain p q i, o .1)
-
 pub boot-state : Determined «store_record».boot_meta_store.boot_state.ended «store_record».boot_meta_store.boot_state.Reads.Post
 boot-state κs a o o' p q i = (state-apart (o .0) (o' .0) (plain p q) i, o .1)
 
@@ -60,14 +56,10 @@ pub set-baud : Determined «store_record».boot_meta_store.set_baud.ended «stor
 set-baud κs a o o' p q i = (tt, (plain p q i, (tt, tt)))
 
 pub advance : Determined «store_record».boot_meta_store.advance.ended «store_record».boot_meta_store.advance.Reads.Post
-advance κs a o o' p q i =
-    let e = plain p q in
-    (step-injective (o .0) (o' .0) (λ j. e j .answer) i, (e i .meta, tt))
+advance κs a o o' p q i = (tt, (plain p q i, tt))
 
 pub consume-trial : Determined «store_record».boot_meta_store.consume_trial.ended «store_record».boot_meta_store.consume_trial.Reads.Post
-consume-trial κs a o o' p q i =
-    let e = plain p q in
-    (step-injective (o .0) (o' .0) (λ j. e j .answer) i, (e i .meta, tt))
+consume-trial κs a o o' p q i = (tt, (plain p q i, tt))
 
 pub refresh : Determined «store_record».boot_meta_store.refresh.ended «store_record».boot_meta_store.refresh.Reads.Post
 refresh κs a o o' p q i = (tt, (plain p q i, (tt, (tt, (tt, tt)))))

@@ -1,6 +1,6 @@
 -- Each answer is the case of the definition that the tests before it lead to.
 use borrow.Author.Tests.{not-true, not-false}
-use Rattle.cmd_erase.proofs.Erasing.{erase-outside, erase-stuck, erase-carried}
+use Rattle.cmd_erase.proofs.Erasing.{erase-outside, erase-carried}
 use borrow.Author.Needs.{needs}
 use Rattle.cmd_erase.proofs.cmd_erase.Statement.{statement}
 use Rattle.cmd_erase.proofs.cmd_erase.Tie as tie
@@ -12,20 +12,12 @@ returns c =
 
 returns-2 : tie.Need-returns-2
 returns-2 c =
-    let b = c .before .before .before .before .before in
-    let a = b .before .before .before .before .args in
-    erase-stuck 64 (a .erase-size) (a .capacity) (a .f .now) (a .flash .now) (a .meta .now) _ (b .before .in-range .ensures) (not-false _ (b .if1 .left))
-    _ _ (c .before .before .before .ready .ensures) (not-true _ (c .if2 .taken))
-
-returns-3 : tie.Need-returns-3
-returns-3 c =
     let e = c .before .before .before in
-    let b = e .before .before .before .before in
-    let d = b .before .before .before .before .before in
+    let r = e .before .before .before .before .before .before in
+    let d = r .before .before in
     let a = d .before .before .before .before .args in
     erase-carried 64 (a .erase-size) (a .capacity) (a .f .now) (a .flash .now) (a .meta .now) _ (d .before .in-range .ensures) (not-false _ (d .if1 .left))
-    _ _ (b .before .before .before .ready .ensures) (not-false _ (b .if2 .left))
-    _ _ (e .before .before .before .addr .ensures) (e .before .before .byte-count .ensures)
+    _ (r .ready .ensures) _ _ (e .before .before .before .addr .ensures) (e .before .before .byte-count .ensures)
     (e .erase .result) _ (e .erase .ensures) _ (c .status-of .ensures)
 
 pub cmd-erase-spec : {M : Type 1} → statement M
@@ -35,8 +27,6 @@ cmd-erase-spec =
     (λ c κs. search needs)
     returns
     (λ c κs. search needs)
-    (λ c. search needs)
-    returns-2
     (λ c κs. search needs)
     (λ c. search needs)
     (λ c κs. search needs)
@@ -46,4 +36,4 @@ cmd-erase-spec =
     (λ c κs. search needs)
     (λ c. search needs)
     (λ c. search needs)
-    returns-3)
+    returns-2)

@@ -1,7 +1,6 @@
 -- Each state is the case of the definition; the record is as the step or the rewrite leaves it.
 use mathlib.Core.Path.{ap, _∙_}
 use Rattle.store_record.specs.State.{stateByte}
-use Rattle.store_record.specs.Record.{Stepped}
 use Rattle.cmd_erase.proofs.Erasing.{ready-idle, ready-updating, ready-validating}
 use borrow.Author.Needs.{needs}
 use Rattle.cmd_erase.proofs.ready.Statement.{statement}
@@ -9,19 +8,17 @@ use Rattle.cmd_erase.proofs.ready.Tie as tie
 
 returns : tie.Need-returns
 returns c =
-    let s = c .before .before .before in
-    let b = s .before .before in
+    let b = c .before .before .before .before in
     let a = b .before .before .before .before .before .args in
-    let l = ready-idle (a .meta .now) _ (b .before .before .boot-state .ensures) (ap stateByte (b .enum-told .given .1)) _ _ (c .done .ensures)
-    (ap (λ (x : Stepped). x .answer) (s .advance .ensures)) in
-    (l .0, ap (λ (x : Stepped). x .meta) (s .advance .ensures) ∙ l .1)
+    c .before .before .advance .ensures ∙
+    ready-idle (a .meta .now) _ (b .before .before .boot-state .ensures) (ap stateByte (b .enum-told .given .1))
 
 returns-2 : tie.Need-returns-2
 returns-2 c =
     let b = c .before .before .before .before in
     let a = b .before .before .before .before .before .args in
-    let l = ready-validating (a .meta .now) _ (b .before .before .boot-state .ensures) (ap stateByte (b .enum-told2 .given .1)) in
-    (l .0, c .before .before .refresh .ensures ∙ l .1)
+    c .before .before .refresh .ensures ∙
+    ready-validating (a .meta .now) _ (b .before .before .boot-state .ensures) (ap stateByte (b .enum-told2 .given .1))
 
 returns-3 : tie.Need-returns-3
 returns-3 c =
@@ -34,7 +31,6 @@ ready-spec =
     (tie.spec
     (λ c κs. search needs)
     (λ c. search needs)
-    (λ c κs. search needs)
     (λ c κs. search needs)
     (λ c. search needs)
     (λ c κs. search needs)
