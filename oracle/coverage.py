@@ -384,20 +384,14 @@ class Bench(model.Bench):
         self.device = Counted(self.device.setup, self.seen)
 
     def done(self, letter, digits):
-        good = super().done(letter, digits)
-        if good:
-            self.seen["line", letter] += 1
-        elif letter not in self.COUNTS:
-            self.seen["line", "no such letter"] += 1
-        elif not all(c in "0123456789abcdefABCDEF" for c in digits):
-            self.seen["line", "no digit"] += 1
-        elif len(digits) % 2:
-            self.seen["line", "half a byte"] += 1
-        else:
-            least, most = self.COUNTS[letter]
-            count = len(digits) // 2
-            self.seen["line", f"{letter}: {'too few' if count < least else 'too many' if count > most else 'past its limit'}"] += 1
-        return good
+        fault = super().done(letter, digits)
+        self.seen["line", letter if fault is None else fault if fault in ("no such letter", "no digit", "half a byte") else f"{letter}: {fault}"] += 1
+        return fault
+
+    def line_t(self, text):
+        fault = super().line_t(text)
+        self.seen["line", "t" if fault is None else f"t: {fault}"] += 1
+        return fault
 
 
 def wanted():
@@ -456,8 +450,9 @@ def wanted():
                         "length 53", "at its end -1", "at its end +0", "bytes not yet read do not count"],
         "setup": [f"erase size {n}" for n in (0, 63, 64, 65, 32, 96, 32768, 32769, 32832)] + [f"capacity {n}" for n in (0, 63, 64, 65, 65535, 65536, 65537, 65600)]
         + ["capacity a multiple of 64 alone"] + [f"id length {n}" for n in (0, 1, 16, 17, 255)],
-        "line": [*model.Bench.COUNTS, "no such letter", "no digit", "half a byte", *(f"{letter}: too few" for letter in "sncmfrpqb"), *(f"{letter}: too many" for letter in "sncmfrpqbxod"),
-                 *(f"{letter}: past its limit" for letter in "ncmfpqb")],
+        "line": [*model.Bench.COUNTS, "t", "no such letter", "no digit", "half a byte", *(f"{letter}: too few bytes" for letter in "sncmfrpqb"),
+                 *(f"{letter}: too many bytes" for letter in "sncmfrpqbxodt"), "n: more than 65600", "c: more than 16", "m: more than 512", "f: past byte 65600",
+                 "p: no such field", "p: more than 1", "q: past byte 64", "b: no such mode"],
     }
     return {group: [str(point) for point in found] for group, found in points.items()}
 

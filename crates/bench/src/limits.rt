@@ -3,7 +3,7 @@ use crate::numbers;
 use store_flash::cells::byte_at;
 use wire_frames::frame::FRAME;
 ghost use mathlib.Core.Path.{_≡_};
-ghost use Prim.Native.Nat.{_+_, _-_};
+ghost use Prim.Native.Nat.{ℕ, _+_, _-_};
 ghost use lib.Dec.{leb};
 ghost use Rattle.bench.specs.Digits.{between};
 ghost use Rattle.bench.specs.Limits.{carried, settable, within, allowed};
@@ -27,26 +27,45 @@ fn is_between(least: usize, most: usize, n: usize) -> bool
     false
 }
 
-// How many bytes a line of this letter may have.
+// From how many bytes to how many a line has.
+pub struct Count {
+    pub least: usize,
+    pub most: usize,
+}
+
+fn from_to(least: usize, most: usize) -> Count
+    ensures { λ r. ⌜ (r .least ≡ least) × (r .most ≡ most) ⌝ }
+{
+    Count { least, most }
+}
+
+// How many bytes a line of this letter may have: where there is no such letter from 1 to 0, which no line has.
+pub(crate) fn count_of(letter: u8) -> Count
+    ensures { λ r. ⌜ ((n : ℕ) → between (r .least) (r .most) n ≡ carried letter n) ⌝ }
+{
+    match letter {
+        b's' => from_to(31, 31),
+        b'n' => from_to(4, 4),
+        b'c' => from_to(1, 1),
+        b'm' => from_to(2, 2),
+        b'f' => from_to(4, LINE),
+        b'r' => from_to(1, 12),
+        b'p' => from_to(5, 5),
+        b'q' => from_to(1, LINE),
+        b'b' => from_to(1, 1),
+        b'x' => from_to(0, LINE),
+        b'o' => from_to(0, LINE),
+        b'd' => from_to(0, 0),
+        b't' => from_to(0, LINE),
+        _ => from_to(1, 0),
+    }
+}
+
 fn carries(letter: u8, n: usize) -> bool
     ensures { λ r. ⌜ r ≡ carried letter n ⌝ }
 {
-    match letter {
-        b's' => is_between(31, 31, n),
-        b'n' => is_between(4, 4, n),
-        b'c' => is_between(1, 1, n),
-        b'm' => is_between(2, 2, n),
-        b'f' => is_between(4, LINE, n),
-        b'r' => is_between(1, 12, n),
-        b'p' => is_between(5, 5, n),
-        b'q' => is_between(1, LINE, n),
-        b'b' => is_between(1, 1, n),
-        b'x' => is_between(0, LINE, n),
-        b'o' => is_between(0, LINE, n),
-        b'd' => is_between(0, 0, n),
-        b't' => is_between(0, LINE, n),
-        _ => false,
-    }
+    let c = count_of(letter);
+    is_between(c.least, c.most, n)
 }
 
 // What is left of n past the first so many.

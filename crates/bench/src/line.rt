@@ -18,7 +18,10 @@ pub struct Line {
     comment: bool,
     // A CR that may turn out to stand before the line's end.
     cr: bool,
-    bad: bool,
+    // A character that is no digit.
+    pub strange: bool,
+    // More than `bytes` holds.
+    pub long: bool,
 }
 
 fn is_blank(c: u8) -> bool {
@@ -38,7 +41,8 @@ impl Line {
             high: digits::NONE,
             comment: false,
             cr: false,
-            bad: false,
+            strange: false,
+            long: false,
         }
     }
 
@@ -46,15 +50,19 @@ impl Line {
         is_blank(self.letter)
     }
 
-    // A line with half a byte is as bad as one with a character that is none of its own.
-    pub fn is_bad(self) -> bool {
-        if self.bad {
-            return true;
-        }
+    pub fn is_half(self) -> bool {
         self.high < digits::NONE
     }
 
-    // A text keeps the blanks inside it. What stands past the buffer's end is bad only if it is no blank.
+    // A line with half a byte is as bad as one with a character that is none of its own.
+    pub fn is_bad(self) -> bool {
+        if self.strange || self.long {
+            return true;
+        }
+        self.is_half()
+    }
+
+    // A text keeps the blanks inside it. What stands past the buffer's end is too much only if it is no blank.
     fn text(mut self, c: u8, bytes: &mut [u8]) -> Line {
         let at = self.at;
         if is_blank(c) {
@@ -63,7 +71,7 @@ impl Line {
             }
         }
         if bytes.len() <= at {
-            self.bad = self.bad || !is_blank(c);
+            self.long = self.long || !is_blank(c);
             return self;
         }
         bytes[at] = c;
@@ -79,20 +87,20 @@ impl Line {
         let high = self.high;
         let len = self.len;
         if digits::NONE <= d {
-            self.bad = true;
+            self.strange = true;
             return self;
         }
         if digits::NONE <= high {
             self.high = d;
             return self;
         }
+        self.high = digits::NONE;
         if bytes.len() <= len {
-            self.bad = true;
+            self.long = true;
             return self;
         }
         bytes[len] = digits::byte(high, d);
         self.len = len + 1;
-        self.high = digits::NONE;
         self
     }
 

@@ -10,6 +10,7 @@ mod numbers;
 mod script;
 mod show;
 mod starting;
+mod words;
 
 use store_flash::storage::PAGE_SIZE;
 use wire_frames::frame::FRAME;

@@ -9,6 +9,7 @@ use crate::module::Bench;
 use crate::numbers;
 use crate::show;
 use crate::starting;
+use crate::words;
 use store_flash::cells::byte_at;
 use store_flash::cells::first;
 use store_flash::cells::lay;
@@ -26,11 +27,13 @@ fn after<'a>(s: &'a [u8], n: usize) -> &'a [u8] {
     s
 }
 
-// A line that is none.
-fn refuse(bench: Bench, number: u64, out: &mut [u8]) -> Bench {
+// A line that is none: its number, and why.
+fn refuse(bench: Bench, line: Line, bytes: &[u8], out: &mut [u8]) -> Bench {
     let mut bench = bench;
     let at = show::byte(out, bench.out, b'?');
-    let at = show::next_decimal(out, at, number);
+    let at = show::next_decimal(out, at, line.number);
+    let at = show::byte(out, at, b' ');
+    let at = words::why(out, at, line, bytes);
     let at = show::byte(out, at, b'\n');
     bench.out = at;
     bench
@@ -150,12 +153,12 @@ fn obey(
         return bench;
     }
     if line.is_bad() {
-        return refuse(bench, line.number, out);
+        return refuse(bench, line, carried, out);
     }
     if limits::is_allowed(letter, carried) {
         return act(bench, letter, carried, f, page, flash, room, out);
     }
-    refuse(bench, line.number, out)
+    refuse(bench, line, carried, out)
 }
 
 // The script between two lines: the bench, how many lines have been read, what is unread of the block, and whether that was the last.
