@@ -94,19 +94,24 @@ module _ (mode : ℕ) (s : Setup) (state flash meta answer : List ℕ) where
   abbrev all : Calls.AfterStart
   all = Calls.startIn 52 64 mode s state flash meta answer
 
-  pub start-no-state : (length state ≡ 136 → ⊥) → unstarted 11 ≡ all
+  pub start-unset : setUp 64 s ≡ false → unstarted 10 ≡ all
   unfolding Calls.startIn
-  start-no-state k = simp (ne-eqb (length state) 136 k)
+  start-unset u = simp u
 
-  pub start-short : length state ≡ 136 → length answer < 16 → (r : ℕ) →
-      r ≡ Calls.orNoRoom (startRefusal 64 s (length flash) (length meta)) → Calls.afterStart r state meta answer ≡ all
-  unfolding Calls.startIn
-  start-short k q r e =
-      let number : ℕ = Calls.orNoRoom (startRefusal 64 s (length flash) (length meta)) in
-      let w : unstarted number ≡ all = simp (eq-eqb (length state) 136 k, lt-ltb (length answer) 16 q) in
-      ap (λ (v : ℕ). Calls.afterStart v state meta answer) e ∙
-      ap (λ (v : List ℕ). Calls.afterStart number state meta v) (answer-short (mute number) 0 answer q) ∙ w
+  module _ (u : setUp 64 s ≡ true) where
+    pub start-no-state : (length state ≡ 136 → ⊥) → unstarted 11 ≡ all
+    unfolding Calls.startIn
+    start-no-state k = simp (u, ne-eqb (length state) 136 k)
 
-  pub start-called : length state ≡ 136 → 16 ≤ length answer → (x : Calls.AfterStart) → x ≡ begun → x ≡ all
-  unfolding Calls.startIn
-  start-called k q x e = e ∙ simp (eq-eqb (length state) 136 k, le-ltb (length answer) 16 q)
+    pub start-short : length state ≡ 136 → length answer < 16 → (r : ℕ) →
+        r ≡ Calls.orNoRoom (startRefusal 64 s (length flash) (length meta)) → Calls.afterStart r state meta answer ≡ all
+    unfolding Calls.startIn
+    start-short k q r e =
+        let number : ℕ = Calls.orNoRoom (startRefusal 64 s (length flash) (length meta)) in
+        let w : unstarted number ≡ all = simp (u, eq-eqb (length state) 136 k, lt-ltb (length answer) 16 q) in
+        ap (λ (v : ℕ). Calls.afterStart v state meta answer) e ∙
+        ap (λ (v : List ℕ). Calls.afterStart number state meta v) (answer-short (mute number) 0 answer q) ∙ w
+
+    pub start-called : length state ≡ 136 → 16 ≤ length answer → (x : Calls.AfterStart) → x ≡ begun → x ≡ all
+    unfolding Calls.startIn
+    start-called k q x e = e ∙ simp (u, eq-eqb (length state) 136 k, le-ltb (length answer) 16 q)

@@ -1,5 +1,6 @@
 -- What a start leaves in a C program's buffers, of a setup by value, and what a new state does (tinyboot_c/include/tinyboot.h, Calls). The order of the
--- refusals: a buffer that is no state's (11), then those of the start in their own order; too little room for an answer counts as no room (14).
+-- refusals is that of their numbers: beside those of the start, a buffer that is not as long as a state is none (11), and too little room for an answer counts
+-- as no room (14).
 use Prim.Native.Nat.{ℕ}
 use mathlib.Core.Bool.{false, not}
 use mathlib.Core.List.{List}
@@ -8,6 +9,7 @@ use lib.Dec.{eqb, ltb}
 use Rattle.laws.specs.Pick.{if_then_else_}
 use Rattle.laws.specs.Over.{over}
 use Rattle.device_state.specs.declared.Setup.{Setup}
+use Rattle.device_state.specs.Refusals.{setUp}
 use Rattle.device_start.specs.Starts.{Booted, newState, startRefusal, startedOf}
 use Rattle.device_replies.specs.Answers.{Told, mute}
 use Rattle.c_layout.specs.Layout.{stateSize, answerSize, stateBytes, answerBytes, answered}
@@ -46,6 +48,7 @@ startCalled x state answer =
 -- a start of a setup by value (tinyboot.h, tinyboot_start), refused or not
 unfoldable pub startIn : ℕ → ℕ → ℕ → Setup → List ℕ → List ℕ → List ℕ → List ℕ → AfterStart
 startIn cap page mode s state flash meta answer =
+    if not (setUp page s) then startRefused 10 state meta answer else
     if not (eqb (length state) (stateSize cap page)) then startRefused 11 state meta answer else
     if ltb (length answer) answerSize then startRefused (orNoRoom (startRefusal page s (length flash) (length meta))) state meta answer else
     startCalled (startedOf cap page s (asked mode) flash meta) state answer

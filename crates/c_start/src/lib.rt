@@ -13,6 +13,7 @@ use device_state::Setup;
 use device_state::refusal::Refusal;
 use device_state::refusal::refusal_number;
 use device_state::refusal::refuses;
+use device_state::refusal::set_up;
 use store_flash::storage::NONE_PENDING;
 use wire_frames::frame::FRAME;
 use wire_numbers::RunMode;
@@ -109,7 +110,7 @@ fn started(
     lay_start(answer, refusal, decision)
 }
 
-// A start, where the buffer is as long as a state.
+// A start, where the buffer is as long as a state; the setup's numbers are tried before that.
 pub fn start_in(
     mode: u8,
     setup: Setup,
@@ -121,6 +122,9 @@ pub fn start_in(
     ensures { λ r. ⌜ afterStart r (now (state .exit)) (now (meta .exit)) (now (answer .exit)) ≡
         startIn 52 64 mode setup (now (state .entry)) (now (flash .entry)) (now (meta .entry)) (now (answer .entry)) ⌝ }
 {
+    if !set_up(setup) {
+        return refuse(answer, refusal_number(Refusal::BadSetup));
+    }
     if state.len() != STATE_SIZE {
         return refuse(answer, refusal_number(Refusal::BadState));
     }

@@ -4,10 +4,12 @@ use Prim.Native.Nat.{ℕ, _+_}
 use mathlib.Core.List.{List, _++_}
 use lib.ListN.{length, take, drop}
 use lib.Dec.{ltb}
+use mathlib.Core.Bool.{not}
 use Rattle.laws.specs.Pick.{if_then_else_}
 use Rattle.device_state.specs.declared.Setup.{Setup}
 use Rattle.device_state.specs.declared.Numbers.{Numbers}
 use Rattle.device_state.specs.State.{World, world}
+use Rattle.device_state.specs.Refusals.{setUp}
 use Rattle.device_replies.specs.Answers.{Told}
 use Rattle.device_feed.specs.Feed.{Called, refusedBy, fedOf}
 
@@ -46,9 +48,10 @@ onBy rest c =
       room = c .room;
     }
 
--- a slice that is too short for the two arrays holds no state (01, What a call says, 11)
+-- the setup's numbers are tried first; then, a slice that is too short for the two arrays holds no state (01, What a call says, 10 and 11)
 unfoldable pub fedOn : ℕ → ℕ → Setup → List ℕ → Numbers → List ℕ → List ℕ → List ℕ → List ℕ → CalledOn
 fedOn cap page setup s n l flash meta room =
     onBy (restIn cap page s)
-    (if ltb (length s) (12 + cap + page) then refusedBy 11 (worldIn cap page s n flash meta) room else
+    (if not (setUp page setup) then refusedBy 10 (worldIn cap page s n flash meta) room else
+    if ltb (length s) (12 + cap + page) then refusedBy 11 (worldIn cap page s n flash meta) room else
     fedOf cap page setup (worldIn cap page s n flash meta) l room)

@@ -25,12 +25,12 @@ ghost use Prim.Native.Nat.{_+_, _≤_};
 ghost use lib.ListN.{length, take, drop};
 ghost use lib.Seq.{paste};
 ghost use Rattle.wire_frames.specs.Stored.{wellOf, seen, readOf};
-ghost use Rattle.device_state.specs.Refusals.{wellFormed, refusalNumber, refusalOf};
+ghost use Rattle.device_state.specs.Refusals.{wellFormed, refusalNumber};
 ghost use Rattle.device_dispatcher.specs.Dispatch.{dispatchOf};
 ghost use Rattle.device_feed.specs.Feed.{endedBy, takenOf};
 ghost use Rattle.device_in_place.specs.On.{restIn, worldIn, onBy, fedOn};
 ghost use Rattle.device_in_place.specs.Byte.{plainAt, laidTo, layByteOf, clearOf, byteOn};
-ghost use Rattle.device_in_place.specs.Inner.{calledOn};
+ghost use Rattle.device_in_place.specs.Inner.{calledOn, refusalOn};
 
 // Both arrays.
 const STATE: usize = FRAME + PAGE_SIZE;
@@ -153,13 +153,15 @@ fn well_formed(setup: Setup, s: &[u8], n: Numbers) -> bool
     false
 }
 
-// The refusal that a call gives, if any.
+// The refusal that a call gives, if any: a slice that is too short holds no state.
 fn refusal_of(setup: Setup, s: &[u8], n: Numbers, flash: usize, meta: usize, room: usize) -> Refusal
-    requires { ⌜ 64 ≤ length (now s) ⌝ }
-    ensures { λ r. ⌜ refusalNumber r ≡ refusalOf 52 64 setup (take 64 (now (s .entry))) n flash meta room ⌝ }
+    ensures { λ r. ⌜ refusalNumber r ≡ refusalOn 52 64 setup (now (s .entry)) n flash meta room ⌝ }
 {
     if !refusal::set_up(setup) {
         return Refusal::BadSetup;
+    }
+    if s.len() < STATE {
+        return Refusal::BadState;
     }
     if !well_formed(setup, s, n) {
         return Refusal::BadState;
@@ -180,13 +182,6 @@ pub fn feed_on(
     ensures { λ r. ⌜ calledOn r (now (s .exit)) (now (flash .exit)) (now (meta .exit)) (now (reply .exit)) ≡
         fedOn 52 64 setup (now (s .entry)) n (now (bytes .entry)) (now (flash .entry)) (now (meta .entry)) (now (reply .entry)) ⌝ }
 {
-    if s.len() < STATE {
-        return Passed {
-            numbers: n,
-            taken: 0,
-            answer: Answer::BadState,
-        };
-    }
     let refusal = refusal_of(setup, s, n, flash.len(), meta.len(), reply.len());
     if refusal.is_none() {
         return pass(setup, n, s, bytes, flash, meta, reply);

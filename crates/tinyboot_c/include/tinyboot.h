@@ -81,8 +81,8 @@ extern "C" {
     ((uint16_t)((((uint32_t)(major) << 11) | ((uint32_t)(minor) << 6) | (uint32_t)(patch)) & 0xFFFF))
 
 /* Calls. What each says, as its result and as the answer's number. From TINYBOOT_REFUSED on the call is refused, and nothing is altered but the answer: its
- * number, mode TINYBOOT_SERVICE, and 0 for the rest. Of several refusals it is the first of: another length of the setup, another length or flag of the state,
- * then those of the feed or of the start in the order of their numbers. An answer of too few bytes is left as it is and counts as no room. */
+ * number, mode TINYBOOT_SERVICE, and 0 for the rest. Of several refusals it is the one with the lowest number. An answer of too few bytes is left as it is and
+ * counts as no room. */
 enum tinyboot_number {
     TINYBOOT_STARTED = 0,     /* a start: its mode is what was decided */
     TINYBOOT_QUIET = 0,       /* a feed: all bytes are taken, and no frame has ended */

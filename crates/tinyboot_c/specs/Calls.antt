@@ -1,7 +1,7 @@
--- What the calls of the C interface leave (include/tinyboot.h, Calls). The order of the refusals: a buffer that is no setup's (10), one that is no state's
--- (11), then those of the feed or of the start in their own order; too little room for an answer counts as no room (14).
+-- What the calls of the C interface leave (include/tinyboot.h, Calls). The order of the refusals is that of their numbers: beside those of the feed or of the
+-- start, a buffer that is no setup's (10), one that is no state's (11), and too little room for an answer, which counts as no room (14).
 use Prim.Native.Nat.{ℕ}
-use mathlib.Core.Bool.{not}
+use mathlib.Core.Bool.{not, _&&_}
 use mathlib.Core.List.{List}
 use lib.ListN.{length}
 use lib.Dec.{eqb, ltb}
@@ -10,7 +10,7 @@ use Rattle.laws.specs.Over.{over}
 use Rattle.device_state.specs.declared.Setup.{Setup}
 use Rattle.device_state.specs.declared.State.{State}
 use Rattle.device_state.specs.State.{World}
-use Rattle.device_state.specs.Refusals.{refusalOf}
+use Rattle.device_state.specs.Refusals.{setUp, refusalOf}
 use Rattle.device_replies.specs.Answers.{mute}
 use Rattle.device_feed.specs.Feed.{Called, fedOf}
 use Rattle.c_layout.specs.Layout.{setupSize, answerSize, setupFrom, holdsState, stateFrom, stateBytes, answerBytes, answered}
@@ -48,7 +48,7 @@ worldFrom cap page state flash meta = record { state = stateFrom cap page state;
 
 unfoldable pub cFed : ℕ → ℕ → List ℕ → List ℕ → List ℕ → List ℕ → List ℕ → List ℕ → List ℕ → AfterFeed
 cFed cap page setup state bytes flash meta reply answer =
-    if not (eqb (length setup) setupSize) then feedRefused 10 state flash meta reply answer else
+    if not (eqb (length setup) setupSize && setUp page (setupFrom setup)) then feedRefused 10 state flash meta reply answer else
     if not (holdsState cap page state) then feedRefused 11 state flash meta reply answer else
     if ltb (length answer) answerSize then
     feedRefused (roomless cap page (setupFrom setup) (stateFrom cap page state) (length flash) (length meta)) state flash meta reply answer else

@@ -12,8 +12,10 @@ use c_layout::unsaid;
 use device_in_place::byte_on;
 use device_in_place::feed_on;
 use device_state::Setup;
+use device_state::refusal::Refusal;
 use device_state::refusal::refusal_number;
 use device_state::refusal::refuses;
+use device_state::refusal::set_up;
 use wire_frames::frame::FRAME;
 ghost use mathlib.Core.Path.{_≡_};
 ghost use Prim.Native.Nat.{_≤_};
@@ -21,8 +23,19 @@ ghost use lib.ListN.{length};
 ghost use Rattle.device_feed.specs.Feed.{fedOf};
 ghost use Rattle.c_layout.specs.Layout.{setupFrom, holdsState, stateFrom};
 ghost use Rattle.tinyboot_c.specs.Calls.{roomless, worldFrom, afterFeed, feedCalled};
-ghost use Rattle.tinyboot_c.specs.Inner.{ByteFed};
+ghost use Rattle.tinyboot_c.specs.Inner.{ByteFed, stateless};
 ghost use mathlib.Core.Bool.{true};
+
+// Where the bytes hold no state: the setup's numbers are tried before it.
+pub(crate) fn stateless(setup: &[u8]) -> u8
+    requires { ⌜ length (now setup) ≡ 31 ⌝ }
+    ensures { λ r. ⌜ r ≡ stateless 64 (setupFrom (now (setup .entry))) ⌝ }
+{
+    if set_up(setup_from(setup)) {
+        return refusal_number(Refusal::BadState);
+    }
+    refusal_number(Refusal::BadSetup)
+}
 
 // With no room for an answer: as if there were none for a reply.
 pub(crate) fn unanswered(setup: Setup, state: &[u8], flash: usize, meta: usize) -> u8

@@ -77,7 +77,7 @@ pub extern "C" fn tinyboot_feed(
         }
         return feeding::fed(setup, state, bytes, flash, meta, reply, answer);
     }
-    refuse(answer, 11)
+    refuse(answer, feeding::stateless(setup))
 }
 
 // A restart, or the first start: mode 0 asks for the app, every other for Service.

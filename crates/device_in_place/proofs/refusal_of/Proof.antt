@@ -1,30 +1,40 @@
+use Prim.Native.Nat.{_≤_}
+use lib.ListN.{length}
 use Rattle.device_state.specs.Refusals.{refusalOf}
+use Rattle.device_in_place.specs.Inner.{refusalOn}
 use mathlib.Core.Path.{sym, _∙_}
-use borrow.Author.Tests.{not-true, not-false}
+use borrow.Author.Tests.{not-true, not-false, lt-ltb, le-ltb}
 use native.Mathlib.Omega.{arith}
 use borrow.Author.Needs.{needs}
 use Rattle.device_in_place.proofs.refusal_of.Statement.{statement}
 use Rattle.device_in_place.proofs.refusal_of.Tie as tie
 
 returns : tie.Need-returns
-unfolding refusalOf
+unfolding refusalOn
 returns c = simp (sym (c .before .set-up .ensures) ∙ not-true _ (c .if1 .taken))
 
 returns-2 : tie.Need-returns-2
-unfolding refusalOf
+unfolding refusalOn
 returns-2 c =
-    simp (
-      sym (c .before .before .before .set-up .ensures) ∙ not-false _ (c .before .before .if1 .left),
-      sym (c .before .well-formed .ensures) ∙
-          not-true _ (c .if2 .taken),
-    )
+    simp (sym (c .before .before .set-up .ensures) ∙ not-false _ (c .before .if1 .left), lt-ltb _ 128 (c .if2 .taken))
 
 returns-3 : tie.Need-returns-3
-unfolding refusalOf
+unfolding refusalOn refusalOf
 returns-3 c =
     simp (
       sym (c .before .before .before .before .set-up .ensures) ∙ not-false _ (c .before .before .before .if1 .left),
-      sym (c .before .before .well-formed .ensures) ∙ not-false _ (c .before .if2 .left),
+      le-ltb _ 128 (c .before .before .if2 .left),
+      sym (c .before .well-formed .ensures) ∙
+          not-true _ (c .if3 .taken),
+    )
+
+returns-4 : tie.Need-returns-4
+unfolding refusalOn refusalOf
+returns-4 c =
+    simp (
+      sym (c .before .before .before .before .before .set-up .ensures) ∙ not-false _ (c .before .before .before .before .if1 .left),
+      le-ltb _ 128 (c .before .before .before .if2 .left),
+      sym (c .before .before .well-formed .ensures) ∙ not-false _ (c .before .if3 .left),
     )
     (c .of-lengths .ensures)
 
@@ -33,7 +43,8 @@ refusal-of-spec = tie.close
     (tie.spec
     (λ c κs. search needs)
     returns
-    (λ c κs. search needs)
     returns-2
     (λ c κs. search needs)
-    returns-3)
+    returns-3
+    (λ c κs. search needs)
+    returns-4)

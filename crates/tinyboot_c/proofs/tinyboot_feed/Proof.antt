@@ -62,18 +62,24 @@ returns-3 c =
     let a = at-entry .args in
     feed-called (a .setup .now) (a .state .now) (a .bytes .now) (a .flash .now) (a .meta .now) (a .reply .now) (a .answer .now)
     (sym (at-holds-setup .holds-setup .ensures) ∙ not-false _ (at-if1 .if1 .left)) (sym (at-holds-state .holds-state .ensures) ∙ at-if2 .if2 .taken)
-    (at-if3 .if3 .left) _ (at-fed .fed .ensures)
+    (λ i k. at-holds-setup .before .before .before .before .before .before .slice-known .given i .fits) (at-if3 .if3 .left) _ (at-fed .fed .ensures)
+
+stateless-requires : tie.Need-stateless-requires
+stateless-requires c κs =
+    let at-if1 = c .before .before .before .before in
+    eqb-true _ 31 (sym (at-if1 .before .holds-setup .ensures) ∙ not-false _ (at-if1 .if1 .left))
 
 returns-4 : tie.Need-returns-4
 returns-4 c =
-    let at-if2 = c .before .before .before .before in
+    let at-if2 = c .before .before .before .before .before in
     let at-holds-state = at-if2 .before in
     let at-if1 = at-holds-state .before .before in
     let at-holds-setup = at-if1 .before in
     let at-entry = at-holds-setup .before .before .before .before .before .before .before .before in
     let a = at-entry .args in
     let e = c .before .before .refuse2 .ensures in
-    rw (e .0, e .1) (feed-no-state (a .setup .now) (a .state .now) (a .bytes .now) (a .flash .now) (a .meta .now) (a .reply .now) (a .answer .now)
+    rw (e .0, e .1, c .before .before .before .stateless .ensures)
+    (feed-no-state (a .setup .now) (a .state .now) (a .bytes .now) (a .flash .now) (a .meta .now) (a .reply .now) (a .answer .now)
     (sym (at-holds-setup .holds-setup .ensures) ∙ not-false _ (at-if1 .if1 .left)) (sym (at-holds-state .holds-state .ensures) ∙ at-if2 .if2 .left))
 
 pub tinyboot-feed-spec : {M : Type 1} → statement M
@@ -96,6 +102,7 @@ tinyboot-feed-spec =
     (λ c. search needs)
     (λ c. search needs)
     returns-3
+    stateless-requires
     (λ c κs. search needs)
     (λ c. search needs)
     (λ c. search needs)
