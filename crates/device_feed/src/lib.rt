@@ -12,6 +12,7 @@ use wire_frames::frame::Kind;
 use wire_frames::frame::Stop;
 ghost use mathlib.Core.Path.{_≡_};
 ghost use mathlib.Core.Bool.{true, false};
+ghost use Rattle.wire_frames.specs.Reading.{kindStatus};
 ghost use Rattle.wire_frames.specs.Stored.{wellOf, saidOf};
 ghost use Rattle.device_state.specs.Refusals.{refusalNumber};
 ghost use Rattle.device_state.specs.State.{world, gotSet};
@@ -65,7 +66,7 @@ pub fn is_going(stop: Stop) -> bool
 
 // How a frame has ended.
 pub fn kind_of(stop: Stop) -> Kind
-    ensures { λ r. ⌜ r ≡ kindOf (saidOf stop) ⌝ }
+    ensures { λ r. ⌜ kindStatus r ≡ kindStatus (kindOf (saidOf stop)) ⌝ }
 {
     match stop {
         Stop::Refused => Kind::Overheard,

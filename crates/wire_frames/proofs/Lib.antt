@@ -7,3 +7,4 @@ pub mod Anywhere
 pub mod Vectors
 pub mod Parts
 pub mod Samples
+pub mod Apart

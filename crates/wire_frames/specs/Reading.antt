@@ -7,6 +7,9 @@ use lib.ListN.{length, getD, take, drop}
 use lib.Dec.{ltb, eqb}
 use Rattle.laws.specs.Pick.{pick, if_then_else_}
 use Rattle.laws.specs.Low.{lowFirst}
+use Rattle.laws.specs.Lookup.{Lookup, none, some}
+use Rattle.wire_numbers.specs.declared.Status.{Status}
+use Rattle.wire_numbers.specs.Names.{statusNumber}
 use Rattle.wire_numbers.specs.Crc.{crcOf}
 use Rattle.wire_frames.specs.Fields.{cmdOf, statusOf, lenOf}
 use Rattle.wire_frames.specs.declared.frame.Kind.{Kind}
@@ -29,6 +32,20 @@ hunt false (b ∷ l) = hunt (eqb b 0xAA) l
 unfoldable pub overhears : Bool → ℕ → Bool
 overhears device status = device && not (eqb status 0)
 
+-- how a frame has ended, by its number: the status that it stands for (01, Frame bytes, statuses and steps 1 to 4); an overheard frame gets no reply, and the
+-- Rust's reader answers Request for it
+abbrev pub kindStatus : Kind → ℕ
+kindStatus Unsupported = statusNumber Status.Unsupported
+kindStatus PayloadOverflow = statusNumber Status.PayloadOverflow
+kindStatus Overheard = statusNumber Status.Request
+kindStatus CrcMismatch = statusNumber Status.CrcMismatch
+kindStatus Good = statusNumber Status.Ok
+
+-- what a header says, by its number: none where the frame goes on
+abbrev pub endStatus : End → Lookup
+endStatus Going = none
+endStatus (Over k) = some (kindStatus k)
+
 -- what a header of this command, status and length says (01, Frame bytes, steps 1 and 2)
 abbrev pub headerOf : ℕ → Bool → ℕ → ℕ → ℕ → End
 headerOf cap device cmd status len =
@@ -46,14 +63,6 @@ checked device f =
     if overhears device (statusOf f) then Overheard else
     if eqb (crcOf (take (10 + lenOf f) f)) (lowFirst (getD f (10 + lenOf f) 0 ∷ getD f (11 + lenOf f) 0 ∷ [])) then Good else
     CrcMismatch
-
--- the status that each kind stands for; an overheard frame gets no reply, and the Rust's reader answers Request for it
-abbrev pub kindStatus : Kind → ℕ
-kindStatus Unsupported = 5
-kindStatus PayloadOverflow = 6
-kindStatus Overheard = 0
-kindStatus CrcMismatch = 3
-kindStatus Good = 1
 
 -- a frame begun, its bytes so far; or ended: how, its bytes, and the bytes after it
 pub data Outcome : Type 0 where

@@ -8,7 +8,7 @@ ghost use mathlib.Core.Bool.{_&&_, _||_};
 ghost use lib.Dec.{ltb, leb, eqb};
 ghost use Prim.Native.Nat.{_+_};
 ghost use lib.ListN.{length};
-ghost use Rattle.wire_frames.specs.Reading.{overhears, headerOf};
+ghost use Rattle.wire_frames.specs.Reading.{overhears, endStatus, headerOf};
 ghost use Rattle.wire_frames.specs.Stored.{newFrame, framed, goes, wellOf};
 
 // The largest payload that a request may carry.
@@ -97,7 +97,7 @@ fn strange(cmd: u8, status: u8) -> bool
 
 // What a whole header says, of its command, status and length: going on, or the frame's end.
 pub fn verdict(cmd: u8, status: u8, len: u16, device: bool) -> End
-    ensures { λ r. ⌜ r ≡ headerOf 52 device cmd status len ⌝ }
+    ensures { λ r. ⌜ endStatus r ≡ endStatus (headerOf 52 device cmd status len) ⌝ }
 {
     if strange(cmd, status) {
         return End::Over(Kind::Unsupported);

@@ -1,6 +1,9 @@
 use Rattle.device_feed.proofs.Feeding.{call-quiet, call-ended}
 use Rattle.device_state.specs.State.{world}
-use mathlib.Core.Path.{sym, _∙_}
+use mathlib.Core.Path.{_≡_, sym, _∙_}
+use Rattle.wire_frames.specs.Stored.{saidOf}
+use Rattle.device_feed.specs.Inner.{kindOf}
+use Rattle.wire_frames.proofs.Apart.{kind-apart}
 use native.Mathlib.Omega.{arith}
 use borrow.Author.Needs.{needs}
 use Rattle.device_feed.proofs.pass.Statement.{statement}
@@ -21,9 +24,10 @@ returns-2 c = let at-dispatch = c .before .before .before .before .before .befor
     let at-read = at-begun .before in
     let at-entry = at-read .before .before .before .before .before .before in
     let a = at-entry .args in
+    let k : at-kind .kind-of .result ≡ kindOf (saidOf (at-read .read-in .result .stop)) = kind-apart _ _ (at-kind .kind-of .ensures) in
     call-ended 52 64 (a .setup) (world (a .f .now) (a .page .now) (a .n) (a .flash .now) (a .meta .now)) (a .bytes .now) (a .reply .now) _
     (at-read .read-in .ensures) (at-entry .pre) (sym (at-kind .before .before .is-going .ensures) ∙ at-kind .before .if1 .left) _
-    (rw (at-kind .kind-of .ensures, at-begun .begun .ensures) at (at-dispatch .dispatch .ensures))
+    (rw (k, at-begun .begun .ensures) at (at-dispatch .dispatch .ensures))
 
 pub pass-spec : {M : Type 1} → statement M
 pass-spec = tie.close

@@ -1,11 +1,13 @@
-use Rattle.wire_frames.specs.Stored.{seen}
+use Rattle.wire_frames.specs.Stored.{saidOf, seen}
 use Rattle.device_feed.proofs.Feeding.{call-quiet, call-ended}
 use Rattle.device_in_place.specs.On.{worldIn}
 use Rattle.device_in_place.proofs.Placed.{on-quiet, on-ended}
 use Prim.Native.Nat.{ℕ}
 use mathlib.Core.List.{List}
 use lib.ListN.{take}
-use mathlib.Core.Path.{refl, sym, _∙_}
+use mathlib.Core.Path.{_≡_, refl, sym, _∙_}
+use Rattle.device_feed.specs.Inner.{kindOf}
+use Rattle.wire_frames.proofs.Apart.{kind-apart}
 use native.Mathlib.Omega.{arith}
 use borrow.Author.Needs.{needs}
 use Rattle.device_in_place.proofs.pass.Statement.{statement}
@@ -34,8 +36,9 @@ returns-2 c =
     let at-entry = at-read .before .before .before .before .before .before .before in
     let a = at-entry .args in
     let r = at-read .read in
+    let k : at-kind .kind-of .result ≡ kindOf (saidOf (r .result .stop)) = kind-apart _ _ (at-kind .kind-of .ensures) in
     on-ended (a .s .now) (r .last .0) (r .ensures .1) (a .setup) _ _ _ (a .flash .now) (a .meta .now) (a .reply .now) _ _
-    (rw (at-kind .kind-of .ensures, at-begun .begun .ensures) at (at-ended .ended .ensures))
+    (rw (k, at-begun .begun .ensures) at (at-ended .ended .ensures))
     (call-ended 52 64 (a .setup) (worldIn 52 64 (a .s .now) (a .n) (a .flash .now) (a .meta .now)) (a .bytes .now) (a .reply .now) _ (r .ensures .0)
     (at-entry .pre .1)
     (sym (at-kind .before .before .is-going .ensures) ∙ at-kind .before .if1 .left) _ refl)
