@@ -1,6 +1,5 @@
 -- The rule of the table of rates, and the search through it.
-use mathlib.Core.Path.{_≡_, refl, ap, sym, _∙_}
-use mathlib.Core.Bool.{Bool, true, false}
+use mathlib.Core.Path.{_≡_, ap, sym, _∙_}
 use mathlib.Core.List.{List, [], _∷_}
 use Prim.Native.Nat.{ℕ, _+_, _≤_, _<_}
 use native.Mathlib.Numerals.{add-one}
@@ -8,7 +7,6 @@ use lib.Dec.{eqb, eqb→eq}
 use lib.ListN.{length, getD, drop, drop-of-length-le}
 use lib.Seq.{drop-cons}
 use borrow.Author.Tests.{lt-ltb, eq-eqb, ne-eqb}
-use Rattle.laws.specs.Pick.{pick}
 use Rattle.laws.specs.Lookup.{none, some}
 use Rattle.laws.proofs.Upto.{upto}
 use Rattle.wire_rates.specs.declared.BaudRate.{BaudRate}
@@ -82,12 +80,3 @@ module _ (x i r : ℕ) (h : i < 14) (e : r ≡ hzOf (entry i)) (inv : placeFrom 
 
   pub miss : (r ≡ x → ⊥) → placeFrom x (i + 1) (drop (i + 1) rates) ≡ hzLookup x
   miss w = past x rates i h (λ k. w (sym rate ∙ k)) ∙ inv
-
--- what a lookup found, or the default
-pub fallen : (t : Bool) (v d : ℕ) → none ≡ pick t (some v) none → d ≡ pick t v d
-fallen true v d e = cc
-fallen false v d e = refl
-
-pub taken : (t : Bool) (x v d : ℕ) → some x ≡ pick t (some v) none → x ≡ pick t v d
-taken true x v d e = cc
-taken false x v d e = cc

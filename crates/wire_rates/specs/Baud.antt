@@ -82,7 +82,3 @@ placeFrom x i (y ∷ ys) = pick (eqb y x) (some i) (placeFrom x (suc i) ys)
 -- 01, Record, flash, start: `from_hz` of the rate type, the first index with this rate
 abbrev pub hzLookup : ℕ → Lookup
 hzLookup hz = placeFrom hz 0 rates
-
--- 01, What form each place needs: a baud with no rate falls to the build's default
-abbrev pub baudOr : ℕ → ℕ → ℕ
-baudOr v default = pick (ltb v 14) v default

@@ -1,7 +1,7 @@
 // The rates of the wire. Translated from tinyboot, lib/protocol/src/lib.rs (MIT OR Apache-2.0); changed.
 
 ghost use mathlib.Core.Path.{_≡_};
-ghost use Rattle.wire_rates.specs.Baud.{baudIndex, baudFoundOf, baudLookup, baudOr, hzOf, hzLookup};
+ghost use Rattle.wire_rates.specs.Baud.{baudIndex, baudFoundOf, baudLookup, hzOf, hzLookup};
 
 // UART rates. A rate stands for its index on the wire and in the record.
 pub enum BaudRate {
@@ -113,14 +113,4 @@ impl BaudRate {
         }
         BaudFound::NoRate
     }
-}
-
-// The rate of a stored index; the build's own where the index has none.
-pub fn baud_or(index: u8, default: BaudRate) -> BaudRate
-    ensures { λ r. ⌜ baudIndex r ≡ baudOr index (baudIndex default) ⌝ }
-{
-    let BaudFound::Rate(rate) = BaudRate::from_u8(index) else {
-        return default;
-    };
-    rate
 }
