@@ -25,6 +25,10 @@ bitsOf (b ∷ l) = bits 8 b ++ bitsOf l
 unfoldable pub crcFrom : ℕ → List ℕ → ℕ
 crcFrom c l = fold entered c (bitsOf l)
 
--- the CRC of a message: the register starts at 0xFFFF
+-- the register before the first byte
+abbrev pub crcStart : ℕ
+crcStart = 0xFFFF
+
+-- the CRC of a message
 abbrev pub crcOf : List ℕ → ℕ
-crcOf l = crcFrom 0xFFFF l
+crcOf l = crcFrom crcStart l

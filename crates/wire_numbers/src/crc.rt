@@ -1,11 +1,18 @@
 // Translated from tinyboot, lib/protocol/src/crc.rs (MIT OR Apache-2.0); changed.
 
 ghost use mathlib.Core.Path.{_≡_};
-ghost use Rattle.wire_numbers.specs.Crc.{crcFrom};
+ghost use Rattle.wire_numbers.specs.Crc.{crcStart, crcFrom};
 ghost use Rattle.wire_numbers.specs.CrcSteps.{shift1, crcByte};
 
 // The register's value before the first byte.
 pub const CRC_INIT: u16 = 0xFFFF;
+
+// The constant under a contract: its number is proved, not only written.
+pub fn crc_start() -> u16
+    ensures { λ r. ⌜ r ≡ crcStart ⌝ }
+{
+    CRC_INIT
+}
 
 // One step of the register, no message bit entering.
 fn step(crc: u16) -> u16
