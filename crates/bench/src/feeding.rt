@@ -5,67 +5,17 @@ use crate::show;
 use crate::starting;
 use device_feed::Passed;
 use device_feed::feed_in;
-use device_replies::Answer;
+use device_replies::Said;
+use device_replies::numbers_of;
 use store_flash::cells::first;
 use store_flash::storage::Page;
 use wire_frames::frame::FrameBytes;
-use wire_numbers::RunMode;
-ghost use mathlib.Core.Path.{_≡_};
-ghost use Rattle.wire_numbers.specs.Names.{modeNumber};
-ghost use Rattle.device_replies.specs.Answers.{toldOf};
-
-// What a call says, in numbers.
-struct Said {
-    number: u64,
-    len: usize,
-    wait: u8,
-    mode: RunMode,
-}
 
 // The bench after a call, how many bytes it took, and whether the rest may be handed in.
 struct Called {
     bench: Bench,
     taken: usize,
     more: bool,
-}
-
-fn mute(number: u64) -> Said
-    ensures { λ r. ⌜ (r .number ≡ number) × (r .len ≡ 0) × (r .wait ≡ 0) × (modeNumber (r .mode) ≡ 1) ⌝ }
-{
-    Said {
-        number: number,
-        len: 0,
-        wait: 0,
-        mode: RunMode::Service,
-    }
-}
-
-fn numbers_of(answer: Answer) -> Said
-    ensures { λ r. ⌜ (r .number ≡ toldOf answer .number) × (r .len ≡ toldOf answer .len) × (r .wait ≡ toldOf answer .wait)
-        × (modeNumber (r .mode) ≡ toldOf answer .mode) ⌝ }
-{
-    match answer {
-        Answer::Quiet => mute(0),
-        Answer::Silent => mute(1),
-        Answer::Reply { len, wait } => Said {
-            number: 2,
-            len: len,
-            wait: wait,
-            mode: RunMode::Service,
-        },
-        Answer::Restart { len, mode } => Said {
-            number: 3,
-            len: len,
-            wait: 0,
-            mode: mode,
-        },
-        Answer::BadSetup => mute(10),
-        Answer::BadState => mute(11),
-        Answer::BadFlash => mute(12),
-        Answer::BadRecord => mute(13),
-        Answer::NoRoom => mute(14),
-        Answer::Closed => mute(15),
-    }
 }
 
 // The reply's bytes, where there are any, after a blank.
@@ -79,13 +29,12 @@ fn replied(out: &mut [u8], at: usize, reply: &[u8]) -> usize {
 }
 
 fn tell(out: &mut [u8], at: usize, said: Said, taken: usize, room: &[u8]) -> usize {
-    let at = show::decimal(out, at, said.number);
+    let at = show::decimal(out, at, said.number as u64);
     let at = show::next_decimal(out, at, taken as u64);
     let at = show::next_decimal(out, at, said.len as u64);
     let at = show::next_decimal(out, at, said.wait as u64);
     let at = show::byte(out, at, b' ');
-    let mode = said.mode;
-    let at = starting::mode(out, at, mode);
+    let at = starting::mode(out, at, starting::mode_of(said.mode));
     replied(out, at, first(room, said.len))
 }
 

@@ -10,7 +10,7 @@ use store_flash::storage::Page;
 use wire_frames::frame::FrameBytes;
 use wire_numbers::RunMode;
 
-fn mode_of(b: u8) -> RunMode {
+pub(crate) fn mode_of(b: u8) -> RunMode {
     if b == 0 {
         return RunMode::HandOff;
     }

@@ -1,6 +1,6 @@
 -- An answer in its buffer.
 use Prim.Native.Nat.{ℕ, _<_, _≤_}
-use mathlib.Core.Path.{_≡_, refl, ap, sym}
+use mathlib.Core.Path.{_≡_, ap, sym}
 use mathlib.Core.Bool.{Bool, true, false}
 use mathlib.Core.List.{List}
 use lib.ListN.{length}
@@ -9,15 +9,8 @@ use borrow.Author.Tests.{lt-ltb, le-ltb}
 use Rattle.laws.specs.Pick.{pick}
 use Rattle.laws.specs.Over.{over}
 use Rattle.device_replies.specs.Answers.{Told}
-use Rattle.c_layout.specs.declared.Said.{Said}
 use Rattle.c_layout.specs.Layout.{answerBytes, answered}
-use Rattle.c_layout.specs.Inner.{toldBy}
 
--- the code's numbers are an answer's, where each is
-pub told-by : (s : Said) (t : Told) → s .number ≡ t .number → s .len ≡ t .len → s .wait ≡ t .wait → s .mode ≡ t .mode → toldBy s ≡ t
-told-by s t n l w m = rw (n, l, w, m) refl
-
--- an answer in its buffer
 module _ (t : Told) (taken : ℕ) (a : List ℕ) where
   abbrev laid : List ℕ
   laid = over (answerBytes t taken) a

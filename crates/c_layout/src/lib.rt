@@ -1,21 +1,18 @@
 // Where a setup, a state and an answer stand in the bytes that a program in C lends, as far as it needs no more than that. Ours: the Rust has no such
 // interface.
 
-use device_replies::Answer;
+use device_replies::Said;
+use device_replies::unsaid;
 use device_state::Numbers;
-use device_state::refusal::Refusal;
-use device_state::refusal::refusal_number;
 use store_flash::storage::PAGE_SIZE;
 use wire_frames::frame::FRAME;
-use wire_numbers::RunMode;
 ghost use mathlib.Core.Path.{_≡_};
 ghost use lib.Dec.{eqb};
 ghost use lib.ListN.{length};
-ghost use Rattle.wire_numbers.specs.Names.{modeNumber};
 ghost use Rattle.device_start.specs.Starts.{newState};
-ghost use Rattle.device_replies.specs.Answers.{mute, toldOf};
+ghost use Rattle.device_replies.specs.Answers.{mute};
+ghost use Rattle.device_replies.specs.Inner.{toldBy};
 ghost use Rattle.c_layout.specs.Layout.{setupSize, holdsState, flagByte, numberBytes, stateBytes, answerBytes, answered};
-ghost use Rattle.c_layout.specs.Inner.{toldBy};
 
 // How many bytes a setup, a state and an answer take.
 pub const SETUP_SIZE: usize = 31;
@@ -34,14 +31,6 @@ pub const FILL: usize = NEXT + 5;
 pub const SELECTED: usize = NEXT + 6;
 
 pub const CLOSED: usize = NEXT + 7;
-
-// What a call says.
-pub struct Said {
-    pub number: u8,
-    pub mode: u8,
-    pub len: usize,
-    pub wait: usize,
-}
 
 // Whether these bytes are as many as a setup's.
 pub fn holds_setup(setup: &[u8]) -> bool
@@ -98,53 +87,6 @@ pub fn new_bytes(closed: bool) -> [u8; STATE_SIZE]
     new[NEXT + 3] = 0xFF;
     new[CLOSED] = flag(closed);
     new
-}
-
-pub fn unsaid(number: u8) -> Said
-    ensures { λ r. ⌜ (r .number ≡ number) × (r .len ≡ 0) × (r .wait ≡ 0) × (r .mode ≡ 1) ⌝ }
-{
-    Said {
-        number: number,
-        mode: 1,
-        len: 0,
-        wait: 0,
-    }
-}
-
-pub fn mode_number(mode: RunMode) -> u8
-    ensures { λ r. ⌜ r ≡ modeNumber mode ⌝ }
-{
-    match mode {
-        RunMode::HandOff => 0,
-        RunMode::Service => 1,
-    }
-}
-
-pub fn numbers_of(answer: Answer) -> Said
-    ensures { λ r. ⌜ (r .number ≡ toldOf answer .number) × (r .len ≡ toldOf answer .len) × (r .wait ≡ toldOf answer .wait) × (r .mode ≡ toldOf answer .mode) ⌝ }
-{
-    match answer {
-        Answer::Quiet => unsaid(0),
-        Answer::Silent => unsaid(1),
-        Answer::Reply { len, wait } => Said {
-            number: 2,
-            mode: 1,
-            len: len,
-            wait: wait as usize,
-        },
-        Answer::Restart { len, mode } => Said {
-            number: 3,
-            mode: mode_number(mode),
-            len: len,
-            wait: 0,
-        },
-        Answer::BadSetup => unsaid(refusal_number(Refusal::BadSetup)),
-        Answer::BadState => unsaid(refusal_number(Refusal::BadState)),
-        Answer::BadFlash => unsaid(refusal_number(Refusal::BadFlash)),
-        Answer::BadRecord => unsaid(refusal_number(Refusal::BadRecord)),
-        Answer::NoRoom => unsaid(refusal_number(Refusal::NoRoom)),
-        Answer::Closed => unsaid(refusal_number(Refusal::Closed)),
-    }
 }
 
 // An answer's 16 bytes.

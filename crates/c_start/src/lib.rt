@@ -2,11 +2,11 @@
 
 use c_layout::ANSWER_SIZE;
 use c_layout::STATE_SIZE;
-use c_layout::Said;
 use c_layout::lay_answer;
-use c_layout::mode_number;
 use c_layout::new_bytes;
 use c_layout::refuse;
+use device_replies::Said;
+use device_replies::mode_number;
 use device_start::start;
 use device_state::Numbers;
 use device_state::Setup;

@@ -20,7 +20,7 @@ use Rattle.store_flash.proofs.Answers.{erase-all}
 use Rattle.store_record.proofs.States.{idle-only, idle-rest}
 use Rattle.store_record.proofs.Record.{advanced-length, refreshed-length}
 use Rattle.wire_frames.specs.Fields.{addrOf, Ok, WriteError, AddrOutOfBounds}
-use Rattle.cmd_erase.specs.Erase.{Erased, byteCountOf, rangeFits, readied, erasedTo, carried, eraseOf}
+use Rattle.cmd_erase.specs.Erase.{Erased, byteCountOf, rangeFits, readied, erasedTo, erasedBy, eraseOf}
 
 -- the address a and the count n apart from the frame
 tested : (erase capacity : ℕ) (f : List ℕ) (a n : ℕ) → a ≡ addrOf f → n ≡ byteCountOf f →
@@ -135,7 +135,7 @@ module _ (page erase capacity : ℕ) (f cells : List ℕ) (d : erase % page ≡ 
     where
       go : (b : Bool) → rangeFits erase capacity f ≡ b →
           pick (not b) (erasedTo AddrOutOfBounds cells meta)
-          (carried (flash.pagesErased page cells (addrOf f) (addrOf f + byteCountOf f)) (readied meta))
+          (erasedBy (flash.pagesErased page cells (addrOf f) (addrOf f + byteCountOf f)) (readied meta))
           ≡ pick (not b) (erasedTo AddrOutOfBounds cells meta) (erasedTo Ok (flash.erased cells (addrOf f) (byteCountOf f)) (readied meta))
       go true h = rw (erase-taken h) refl
       go false h = refl
@@ -166,7 +166,7 @@ module _ (page erase capacity : ℕ) (f cells meta : List ℕ) where
   either : Bool → Erased
   either b =
       pick (not b) (erasedTo AddrOutOfBounds cells meta)
-      (carried (flash.pagesErased page cells (addrOf f) (addrOf f + byteCountOf f)) (readied meta))
+      (erasedBy (flash.pagesErased page cells (addrOf f) (addrOf f + byteCountOf f)) (readied meta))
 
   pub erase-flash-length : length (eraseOf page erase capacity f cells meta .flash) ≡ length cells
   unfolding eraseOf either

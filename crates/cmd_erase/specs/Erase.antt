@@ -38,10 +38,10 @@ unfoldable pub readied : List ℕ → List ℕ
 readied meta = if updating meta then meta else if validating meta then refreshed meta 0xFFFF 0x7F 0xFFFFFFFF else advanced meta
 
 -- then the range is erased; what the storage refuses is a WriteError
-abbrev pub carried : Cells → List ℕ → Erased
-carried left meta = erasedTo (if eqb (left .answer) 0 then Ok else WriteError) (left .cells) meta
+abbrev pub erasedBy : Cells → List ℕ → Erased
+erasedBy left meta = erasedTo (if eqb (left .answer) 0 then Ok else WriteError) (left .cells) meta
 
 unfoldable pub eraseOf : ℕ → ℕ → ℕ → List ℕ → List ℕ → List ℕ → Erased
 eraseOf page erase capacity f cells meta =
     if not (rangeFits erase capacity f) then erasedTo AddrOutOfBounds cells meta else
-    carried (flash.pagesErased page cells (addrOf f) (addrOf f + byteCountOf f)) (readied meta)
+    erasedBy (flash.pagesErased page cells (addrOf f) (addrOf f + byteCountOf f)) (readied meta)

@@ -7,9 +7,10 @@ use wire_numbers::RunMode;
 use wire_numbers::Status;
 use wire_numbers::le;
 ghost use mathlib.Core.Path.{_≡_};
-ghost use Rattle.wire_numbers.specs.Names.{statusNumber};
+ghost use Rattle.wire_numbers.specs.Names.{statusNumber, modeNumber};
 ghost use Rattle.wire_frames.specs.Fields.{flagsOf};
-ghost use Rattle.device_replies.specs.Answers.{toldOf};
+ghost use Rattle.device_replies.specs.Answers.{mute, toldOf};
+ghost use Rattle.device_replies.specs.Inner.{toldBy};
 ghost use Rattle.device_replies.specs.Reply.{headed, spoken, replyOf};
 
 // What a call says: no frame has ended; one has, and there is no reply; there is one, to be sent after a wait of so many byte-times; there is one, and a
@@ -25,6 +26,62 @@ pub enum Answer {
     BadRecord,
     NoRoom,
     Closed,
+}
+
+// An answer in numbers.
+pub struct Said {
+    pub number: u8,
+    pub mode: u8,
+    pub len: usize,
+    pub wait: usize,
+}
+
+pub fn mode_number(mode: RunMode) -> u8
+    ensures { λ r. ⌜ r ≡ modeNumber mode ⌝ }
+{
+    match mode {
+        RunMode::HandOff => 0,
+        RunMode::Service => 1,
+    }
+}
+
+// The answer of this number, where it tells of no reply.
+pub fn unsaid(number: u8) -> Said
+    ensures { λ r. ⌜ toldBy r ≡ mute number ⌝ }
+{
+    Said {
+        number: number,
+        mode: 1,
+        len: 0,
+        wait: 0,
+    }
+}
+
+pub fn numbers_of(answer: Answer) -> Said
+    ensures { λ r. ⌜ toldBy r ≡ toldOf answer ⌝ }
+{
+    match answer {
+        Answer::Quiet => unsaid(0),
+        Answer::Silent => unsaid(1),
+        Answer::Reply { len, wait } => Said {
+            number: 2,
+            mode: 1,
+            len: len,
+            wait: wait as usize,
+        },
+        Answer::Restart { len, mode } => Said {
+            number: 3,
+            mode: mode_number(mode),
+            len: len,
+            wait: 0,
+        },
+        Answer::BadSetup => unsaid(10),
+        Answer::BadState => unsaid(11),
+        Answer::BadFlash => unsaid(12),
+        Answer::BadRecord => unsaid(13),
+        Answer::NoRoom => unsaid(14),
+        Answer::Closed => unsaid(15),
+    }
 }
 
 // The reply's status and length.

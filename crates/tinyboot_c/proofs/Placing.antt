@@ -11,10 +11,10 @@ use Rattle.device_feed.specs.declared.Passed.{Passed}
 use Rattle.device_feed.specs.Feed.{Called}
 use Rattle.device_in_place.specs.On.{restIn, CalledOn, onBy}
 use Rattle.device_in_place.specs.Inner.{calledOn}
-use Rattle.c_layout.specs.declared.Said.{Said}
+use Rattle.device_replies.specs.declared.Said.{Said}
 use Rattle.c_layout.specs.Layout.{numberBytes, partBytes, answerBytes}
 use Rattle.tinyboot_c.specs.Calls
-use Rattle.c_layout.specs.Inner.{toldBy}
+use Rattle.device_replies.specs.Inner.{toldBy}
 use Rattle.tinyboot_c.proofs.Laying.{laid-next}
 
 -- n takes the place of the last 8 of 136 bytes

@@ -18,9 +18,9 @@ use Rattle.device_in_place.specs.Byte.{laidTo, byteOn}
 use Rattle.device_in_place.proofs.Quick.{byte-laid, byte-within, byte-fed}
 use Rattle.c_layout.specs.Layout.{part, setupFrom, holdsState, numbersFrom, flagByte, numberBytes, partBytes, stateBytes, answerBytes}
 use Rattle.tinyboot_c.specs.Calls.{AfterFeed, afterFeed, feedCalled}
-use Rattle.c_layout.specs.Inner.{toldBy}
+use Rattle.device_replies.specs.Inner.{toldBy}
 use Rattle.tinyboot_c.specs.Inner.{ByteFed}
-use Rattle.c_layout.specs.declared.Said.{Said}
+use Rattle.device_replies.specs.declared.Said.{Said}
 use Rattle.c_layout.proofs.Holding.{holds-size}
 use Rattle.tinyboot_c.proofs.Round.{read-written}
 

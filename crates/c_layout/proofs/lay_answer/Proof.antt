@@ -4,7 +4,7 @@ use mathlib.Core.List.{List, _++_}
 use lib.ListN.{length, drop}
 use Rattle.laws.specs.Over.{over}
 use lib.Seq.{take-all}
-use Rattle.c_layout.specs.Inner.{toldBy}
+use Rattle.device_replies.specs.Inner.{toldBy}
 use Rattle.c_layout.proofs.Answering.{answer-short, answer-laid}
 use native.Mathlib.Omega.{arith}
 use borrow.Author.Needs.{needs}

@@ -6,9 +6,8 @@ use Rattle.c_layout.specs.Layout.{setupFrom}
 use Rattle.tinyboot_c.specs.Calls.{AfterFeed, feedCalled, worldFrom}
 use mathlib.Core.Path.{_≡_, refl, ap, sym, _∙_}
 use lib.ListN.{length}
-use Rattle.device_replies.specs.Answers.{mute}
-use Rattle.c_layout.specs.Inner.{toldBy}
-use Rattle.c_layout.proofs.Answering.{told-by, answer-laid}
+use Rattle.device_replies.specs.Inner.{toldBy}
+use Rattle.c_layout.proofs.Answering.{answer-laid}
 use Rattle.c_layout.proofs.Holding.{holds-size}
 use Rattle.tinyboot_c.proofs.Single.{byte-answered}
 use native.Mathlib.Omega.{arith}
@@ -26,7 +25,7 @@ returns c =
     let v = c .before .before .lay-answer .ensures in
     let e = rw (at-if1 .if1 .taken) at (at-fed-byte .fed-byte .ensures) in
     let said = c .before .before .before .unsaid .result in
-    byte-answered said (told-by said (mute 0) (u .0) (u .1) (u .2) (u .3)) _ (v .0) _ (a .flash .now) (a .meta .now) (a .reply .now) (a .answer .now) _
+    byte-answered said u _ (v .0) _ (a .flash .now) (a .meta .now) (a .reply .now) (a .answer .now) _
     (v .1 ∙ sym (answer-laid (toldBy said) 1 (a .answer .now) (at-entry .pre .1 .1))) _
     (e (a .flash .now) (a .meta .now) (a .reply .now) (a .answer .now) refl refl refl)
 

@@ -2,11 +2,10 @@ use Prim.Native.Nat.{_≤_}
 use mathlib.Core.Path.{_≡_, sym, _∙_}
 use native.Mathlib.Omega.{arith}
 use lib.ListN.{length}
-use Rattle.device_replies.specs.Answers.{toldOf}
 use Rattle.device_in_place.proofs.Placed.{on-long}
 use Rattle.device_feed.specs.Feed.{Called, fedOf}
 use Rattle.tinyboot_c.specs.Calls.{worldFrom}
-use Rattle.c_layout.proofs.Answering.{told-by, answer-laid}
+use Rattle.c_layout.proofs.Answering.{answer-laid}
 use Rattle.tinyboot_c.proofs.Placing.{fed-placed}
 use borrow.Author.Needs.{needs}
 use Rattle.tinyboot_c.proofs.feeding.fed_piece.Statement.{statement}
@@ -32,7 +31,7 @@ returns c =
     let v = c .before .before .lay-answer .ensures in
     fed-placed (a .answer .now) p (a .state .now) _ _ _ _ x ls (lay-numbers-requires at-passed (at-lay-numbers .lay-numbers .lifetimes))
     (e ∙ sym (on-long _ _ _ _ _ _ _ h))
-    _ (told-by _ (toldOf (p .answer)) (u .0) (u .1) (u .2) (u .3)) _ (v .0) _ (at-lay-numbers .lay-numbers .ensures) _
+    _ u _ (v .0) _ (at-lay-numbers .lay-numbers .ensures) _
     (v .1 ∙ sym (answer-laid _ _ (a .answer .now) (at-entry .pre .1)))
 
 pub fed-piece-spec : {M : Type 1} → statement M
