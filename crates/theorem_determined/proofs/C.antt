@@ -17,17 +17,6 @@ number-bytes κs a o o' p q i = (plain p q i, o .1)
 pub new-bytes : Determined c_layout.new_bytes.ended c_layout.new_bytes.Reads.Post
 new-bytes κs a o o' p q i = (plain p q i, o .1)
 
-pub unsaid : Determined c_layout.unsaid.ended c_layout.unsaid.Reads.Post
-unsaid κs a o o' p q i =
-    (record { number = plain (p .0) (q .0) i; mode = plain (p .3) (q .3) i; len = plain (p .1) (q .1) i; wait = plain (p .2) (q .2) i }, o .1)
-
-pub mode-number : Determined c_layout.mode_number.ended c_layout.mode_number.Reads.Post
-mode-number κs a o o' p q i = (plain p q i, o .1)
-
-pub numbers-of : Determined c_layout.numbers_of.ended c_layout.numbers_of.Reads.Post
-numbers-of κs a o o' p q i =
-    (record { number = plain (p .0) (q .0) i; mode = plain (p .3) (q .3) i; len = plain (p .1) (q .1) i; wait = plain (p .2) (q .2) i }, o .1)
-
 pub lay-answer : Determined c_layout.lay_answer.ended c_layout.lay_answer.Reads.Post
 lay-answer κs a o o' p q i = (plain (p .0) (q .0) i, (plain (p .1) (q .1) i, (tt, (tt, tt))))
 

@@ -2,6 +2,7 @@
 use Rattle.theorem_determined.specs.Determined.{Determined}
 use Rattle.theorem_determined.proofs.Apart.{plain, refusal-apart, answer-apart}
 use Rattle.wire_numbers.proofs.Apart.{status-apart, mode-apart}
+use Rattle.wire_frames.proofs.Apart.{kind-apart}
 use Rattle.device_state.proofs as device_state
 use Rattle.device_boot.proofs as device_boot
 use Rattle.device_start.proofs as device_start
@@ -75,6 +76,19 @@ handle κs a o o' p q i =
       (tt, (e i .left .state .frame, (e i .left .state .page, (tt, (e i .left .flash, (e i .left .meta, tt)))))),
     )
 
+pub mode-number : Determined device_replies.mode_number.ended device_replies.mode_number.Reads.Post
+mode-number κs a o o' p q i = (plain p q i, o .1)
+
+pub unsaid : Determined device_replies.unsaid.ended device_replies.unsaid.Reads.Post
+unsaid κs a o o' p q i =
+    let e = plain p q in
+    (record { number = e i .number; mode = e i .mode; len = e i .len; wait = e i .wait }, o .1)
+
+pub numbers-of : Determined device_replies.numbers_of.ended device_replies.numbers_of.Reads.Post
+numbers-of κs a o o' p q i =
+    let e = plain p q in
+    (record { number = e i .number; mode = e i .mode; len = e i .len; wait = e i .wait }, o .1)
+
 pub reply : Determined device_replies.reply.ended device_replies.reply.Reads.Post
 reply κs a o o' p q i =
     let e = plain p q in
@@ -94,7 +108,7 @@ pub is-going : Determined device_feed.is_going.ended device_feed.is_going.Reads.
 is-going κs a o o' p q i = (plain p q i, o .1)
 
 pub kind-of : Determined device_feed.kind_of.ended device_feed.kind_of.Reads.Post
-kind-of κs a o o' p q i = (plain p q i, o .1)
+kind-of κs a o o' p q i = (kind-apart (o .0) (o' .0) (plain p q) i, o .1)
 
 pub begun : Determined device_feed.begun.ended device_feed.begun.Reads.Post
 begun κs a o o' p q i = (plain p q i, o .1)

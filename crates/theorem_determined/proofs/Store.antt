@@ -4,7 +4,9 @@ use Rattle.theorem_determined.specs.Determined.{Determined, DeterminedBe
 use Rattle.theorem_determined.proofs.Apart.{plain, state-apart}
 use Rattle.store_flash.proofs.Answers.{stored-injective}
 use Rattle.store_flash.proofs as store_flash
+use Rattle.wire_rates.proofs.Apart.{rate-apart}
 use Rattle.store_record.proofs as «store_record»
+use Rattle.store_rate.proofs as store_rate
 
 pub byte-at : Determined store_flash.cells.byte_at.ended store_flash.cells.byte_at.Reads.Post
 byte-at κs a o o' p q i = (plain p q i, o .1)
@@ -75,3 +77,6 @@ to-u8 κs a o o' p q i = (plain p q i, o .1)
 
 pub app-present : Determined «store_record».traits.app_present.ended «store_record».traits.app_present.Reads.Post
 app-present κs a o o' p q i = (plain p q i, o .1)
+
+pub rate-baud : Determined store_rate.baud.ended store_rate.baud.Reads.Post
+rate-baud κs a o o' p q i = (rate-apart (o .0) (o' .0) (plain p q) i, o .1)

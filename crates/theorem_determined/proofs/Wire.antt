@@ -2,7 +2,8 @@
 use Rattle.theorem_determined.specs.Determined.{Determined}
 use Rattle.theorem_determined.proofs.Apart.{plain, stop-apart}
 use Rattle.wire_numbers.proofs.Apart.{mode-apart, cmd-found-apart, status-found-apart}
-use Rattle.wire_rates.proofs.Apart.{rate-apart, rate-found-apart}
+use Rattle.wire_rates.proofs.Apart.{rate-found-apart}
+use Rattle.wire_frames.proofs.Apart.{end-apart}
 use Rattle.wire_numbers.proofs as wire_numbers
 use Rattle.wire_rates.proofs as wire_rates
 use Rattle.wire_info.proofs as wire_info
@@ -43,6 +44,9 @@ status-from-u8 κs a o o' p q i = (status-found-apart (o .0) (o' .0) (plain p q)
 pub compat-key : Determined wire_numbers.compat_key.ended wire_numbers.compat_key.Reads.Post
 compat-key κs a o o' p q i = (plain p q i, o .1)
 
+pub crc-start : Determined wire_numbers.crc.crc_start.ended wire_numbers.crc.crc_start.Reads.Post
+crc-start κs a o o' p q i = (plain p q i, o .1)
+
 pub crc16 : Determined wire_numbers.crc.crc16.ended wire_numbers.crc.crc16.Reads.Post
 crc16 κs a o o' p q i = (plain p q i, o .1)
 
@@ -76,9 +80,6 @@ rate-from-u8 κs a o o' p q i = (rate-found-apart (o .0) (o' .0) (plain p q) i, 
 pub rate-from-hz : Determined wire_rates.BaudRate.from_hz.ended wire_rates.BaudRate.from_hz.Reads.Post
 rate-from-hz κs a o o' p q i = (rate-found-apart (o .0) (o' .0) (plain p q) i, o .1)
 
-pub baud-or : Determined wire_rates.baud_or.ended wire_rates.baud_or.Reads.Post
-baud-or κs a o o' p q i = (rate-apart (o .0) (o' .0) (plain p q) i, o .1)
-
 pub wire-len : Determined wire_info.InfoData.wire_len.ended wire_info.InfoData.wire_len.Reads.Post
 wire-len κs a o o' p q i = (plain p q i, o .1)
 
@@ -101,7 +102,7 @@ pub heard : Determined wire_frames.frame.heard.ended wire_frames.frame.heard.Rea
 heard κs a o o' p q i = (plain p q i, o .1)
 
 pub verdict : Determined wire_frames.frame.verdict.ended wire_frames.frame.verdict.Reads.Post
-verdict κs a o o' p q i = (plain p q i, o .1)
+verdict κs a o o' p q i = (end-apart (o .0) (o' .0) (plain p q) i, o .1)
 
 pub is-beginning : Determined wire_frames.frame.is_beginning.ended wire_frames.frame.is_beginning.Reads.Post
 is-beginning κs a o o' p q i = (plain p q i, o .1)
