@@ -14,11 +14,11 @@ use Rattle.store_flash.specs.declared.storage.Stored.{Stored}
 use Rattle.store_flash.specs.Flash.{leaves, storedNumber, unaligned}
 use Rattle.store_flash.specs.Flash as flash
 use Rattle.store_record.specs.State.{stateRead}
-use Rattle.store_record.specs.Record.{stateOf, refreshed, advanced, updating, validating}
+use Rattle.store_record.specs.Record.{stateOf, positionOf, refreshed, advanced, updating, validating}
 use Rattle.store_flash.proofs.Flash.{erased-length}
 use Rattle.store_flash.proofs.Answers.{erase-all}
 use Rattle.store_record.proofs.States.{idle-only, idle-rest}
-use Rattle.store_record.proofs.Record.{advanced-length, refreshed-length}
+use Rattle.store_record.proofs.Record.{advanced-length, refreshed-length, advanced-position, refreshed-position}
 use Rattle.wire_frames.specs.Fields.{addrOf, Ok, WriteError, AddrOutOfBounds}
 use Rattle.cmd_erase.specs.Erase.{Erased, byteCountOf, rangeFits, readied, erasedTo, erasedBy, eraseOf}
 
@@ -153,14 +153,28 @@ left-length page cells from to = go (unaligned page from || unaligned page to) (
     go false true = refl
     go false false = erased-length cells from (to - from)
 
-pub readied-length : (meta : List ℕ) → length (readied meta) ≡ length meta
-unfolding readied
-readied-length meta = go (updating meta) (validating meta)
-  where
-    go : (u v : Bool) → length (pick u meta (pick v (refreshed meta 0xFFFF 0x7F 0xFFFFFFFF) (advanced meta))) ≡ length meta
-    go true v = refl
-    go false true = refreshed-length meta 0xFFFF 0x7F 0xFFFFFFFF
-    go false false = advanced-length meta
+-- what the rewrite and the step keep of the record, it keeps
+module _ (part : List ℕ → ℕ) (meta : List ℕ) (r : part (refreshed meta 0xFFFF 0x7F 0xFFFFFFFF) ≡ part meta) (s : part (advanced meta) ≡ part meta) where
+  readied-keeps : part (readied meta) ≡ part meta
+  unfolding readied
+  readied-keeps = go (updating meta) (validating meta)
+    where
+      go : (u v : Bool) → part (pick u meta (pick v (refreshed meta 0xFFFF 0x7F 0xFFFFFFFF) (advanced meta))) ≡ part meta
+      go true v = refl
+      go false true = r
+      go false false = s
+
+  erase-keeps : (page erase capacity : ℕ) (f cells : List ℕ) → part (eraseOf page erase capacity f cells meta .meta) ≡ part meta
+  unfolding eraseOf
+  erase-keeps page erase capacity f cells = go (rangeFits erase capacity f)
+    where
+      go : (b : Bool) →
+          part
+          (pick (not b) (erasedTo AddrOutOfBounds cells meta)
+          (erasedBy (flash.pagesErased page cells (addrOf f) (addrOf f + byteCountOf f)) (readied meta)) .meta)
+          ≡ part meta
+      go true = readied-keeps
+      go false = refl
 
 module _ (page erase capacity : ℕ) (f cells meta : List ℕ) where
   either : Bool → Erased
@@ -177,9 +191,10 @@ module _ (page erase capacity : ℕ) (f cells meta : List ℕ) where
       go false = refl
 
   pub erase-meta-length : length (eraseOf page erase capacity f cells meta .meta) ≡ length meta
-  unfolding eraseOf either
-  erase-meta-length = go (rangeFits erase capacity f)
-    where
-      go : (b : Bool) → length (either b .meta) ≡ length meta
-      go true = readied-length meta
-      go false = refl
+  erase-meta-length =
+      erase-keeps (λ (m : List ℕ). length m) meta (refreshed-length meta 0xFFFF 0x7F 0xFFFFFFFF) (advanced-length meta) page erase capacity f cells
+
+  -- the place in the row is kept (E10), by the rewrite from Validating too
+  pub erase-position : length meta ≡ 12 → positionOf (eraseOf page erase capacity f cells meta .meta) ≡ positionOf meta
+  erase-position n =
+      erase-keeps (λ (m : List ℕ). positionOf m) meta (refreshed-position meta n 0xFFFF 0x7F 0xFFFFFFFF) (advanced-position meta n) page erase capacity f cells

@@ -8,8 +8,8 @@ use lib.Dec.{ltb, eqb}
 use borrow.Author.Tests.{lt-ltb, le-ltb, eq-eqb, ne-eqb}
 use Rattle.laws.specs.Pick.{pick}
 use Rattle.wire_numbers.specs.Crc.{crcOf}
-use Rattle.store_record.specs.Record.{refreshed, updating}
-use Rattle.store_record.proofs.Record.{refreshed-length}
+use Rattle.store_record.specs.Record.{positionOf, refreshed, updating}
+use Rattle.store_record.proofs.Record.{refreshed-length, refreshed-position}
 use Rattle.wire_frames.specs.Fields.{addrOf, Ok, AddrOutOfBounds, Unsupported, Incompatible}
 use Rattle.cmd_verify.specs.Verify.{verifiedTo, keyAt, keyIn, keyFits, recorded, verifyOf}
 
@@ -58,18 +58,28 @@ module _ (key capacity : ℕ) (f flash meta : List ℕ) (u : Bool) (e : u ≡ up
       pub verify-recorded : b ≡ true → (x : ℕ) → x ≡ crcOf (take s flash) → verifiedTo Ok x (refreshed meta x 0x3F s) ≡ verifyOf key capacity f flash meta
       verify-recorded v x p = rw p (simp (w, ne-eqb s 0 h, le-ltb capacity s l, ← q, v) at (judged key capacity s f flash meta u e k))
 
--- the record's length is kept
-pub verify-length : (key capacity : ℕ) (f flash meta : List ℕ) → length (verifyOf key capacity f flash meta .meta) ≡ length meta
-unfolding verifyOf
-verify-length key capacity f flash meta =
-    go (updating meta) (eqb (addrOf f) 0 || ltb capacity (addrOf f)) (keyFits key capacity flash (addrOf f))
-  where
-    go : (u o k : Bool) →
-        length
-        (pick (not u) (verifiedTo Unsupported 0 meta)
-        (pick o (verifiedTo AddrOutOfBounds 0 meta) (pick (not k) (verifiedTo Incompatible 0 meta) (recorded flash meta (addrOf f)))) .meta)
-        ≡ length meta
-    go false o k = refl
-    go true true k = refl
-    go true false false = refl
-    go true false true = refreshed-length meta (crcOf (take (addrOf f) flash)) 0x3F (addrOf f)
+-- the record is left as it is, or rewritten as Validating; so what the rewrite keeps of it, a Verify keeps
+module _ (part : List ℕ → ℕ) (meta : List ℕ) (kept : (checksum size : ℕ) → part (refreshed meta checksum 0x3F size) ≡ part meta) where
+  verify-keeps : (key capacity : ℕ) (f flash : List ℕ) → part (verifyOf key capacity f flash meta .meta) ≡ part meta
+  unfolding verifyOf
+  verify-keeps key capacity f flash = go (updating meta) (eqb (addrOf f) 0 || ltb capacity (addrOf f)) (keyFits key capacity flash (addrOf f))
+    where
+      go : (u o k : Bool) →
+          part
+          (pick (not u) (verifiedTo Unsupported 0 meta)
+          (pick o (verifiedTo AddrOutOfBounds 0 meta) (pick (not k) (verifiedTo Incompatible 0 meta) (recorded flash meta (addrOf f)))) .meta)
+          ≡ part meta
+      go false o k = refl
+      go true true k = refl
+      go true false false = refl
+      go true false true = kept (crcOf (take (addrOf f) flash)) (addrOf f)
+
+module _ (key capacity : ℕ) (f flash meta : List ℕ) where
+  -- the record's length is kept
+  pub verify-length : length (verifyOf key capacity f flash meta .meta) ≡ length meta
+  verify-length = verify-keeps (λ (m : List ℕ). length m) meta (λ checksum size. refreshed-length meta checksum 0x3F size) key capacity f flash
+
+  -- and the place in the row (E10)
+  pub verify-position : length meta ≡ 12 → positionOf (verifyOf key capacity f flash meta .meta) ≡ positionOf meta
+  verify-position n =
+      verify-keeps (λ (m : List ℕ). positionOf m) meta (λ checksum size. refreshed-position meta n checksum 0x3F size) key capacity f flash

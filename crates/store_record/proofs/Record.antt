@@ -1,5 +1,5 @@
 -- What callers use of the record of 12 bytes: every field after each change, its length, and the worked steps.
-use mathlib.Core.Path.{_≡_, refl, ap₂, _∙_}
+use mathlib.Core.Path.{_≡_, refl, ap, ap₂, _∙_}
 use mathlib.Core.List.{List, [], _∷_, _++_}
 use Prim.Native.Nat.{ℕ, _≤_, _<_, _/_}
 use native.Mathlib.Nat.{mod-eq-of-lt}
@@ -9,7 +9,7 @@ use lib.ListN.{length, getD, set, length-set}
 use lib.Seq.{length-sets, set-getD}
 use Rattle.laws.specs.Low.{lowFirst, lowBytes}
 use Rattle.laws.proofs.Low.{low-read}
-use Rattle.store_record.specs.Record.{stateOf, trialsOf, checksumOf, sizeOf, baudOf, reservedOf, refreshed, baudSet, half, advanced, trialUsed}
+use Rattle.store_record.specs.Record.{stateOf, trialsOf, checksumOf, sizeOf, baudOf, positionOf, reservedOf, refreshed, rowSet, half, advanced, trialUsed}
 
 -- all that a record says, by name
 pub record Fields : Type 0 where
@@ -18,10 +18,20 @@ pub record Fields : Type 0 where
   pub checksum : ℕ
   pub size : ℕ
   pub baud : ℕ
+  pub position : ℕ
   pub reserved : List ℕ
 
 abbrev pub fieldsOf : List ℕ → Fields
-fieldsOf m = record { state = stateOf m; trials = trialsOf m; checksum = checksumOf m; size = sizeOf m; baud = baudOf m; reserved = reservedOf m }
+fieldsOf m =
+    record {
+      state = stateOf m;
+      trials = trialsOf m;
+      checksum = checksumOf m;
+      size = sizeOf m;
+      baud = baudOf m;
+      position = positionOf m;
+      reserved = reservedOf m;
+    }
 
 -- a record of 12 bytes, written out
 data Whole : List ℕ → Type 0 where
@@ -52,43 +62,69 @@ low4 v h = low-read 4 v ∙ mod-eq-of-lt h
 
 refreshed-cells : {m : List ℕ} → Whole m → (checksum state size : ℕ) → checksum < 65536 → size < 4294967296
     → fieldsOf (refreshed m checksum state size)
-    ≡ record { state = state; trials = 0xFF; checksum = checksum; size = size; baud = baudOf m; reserved = reservedOf m }
+    ≡ record { state = state; trials = 0xFF; checksum = checksum; size = size; baud = baudOf m; position = positionOf m; reserved = reservedOf m }
 refreshed-cells (cells a b c d e f g h i j k l) checksum state size hc hs =
     ap₂
-    (λ (x y : ℕ). record { state = state; trials = 0xFF; checksum = x; size = y; baud = i; reserved = j ∷ k ∷ l ∷ [] })
+    (λ (x y : ℕ). record { state = state; trials = 0xFF; checksum = x; size = y; baud = i; position = j; reserved = k ∷ l ∷ [] })
     (low2 checksum hc)
     (low4 size hs)
 
 -- a rewrite, field by field
 pub refreshed-fields : (m : List ℕ) → length m ≡ 12 → (checksum state size : ℕ) → checksum < 65536 → size < 4294967296
     → fieldsOf (refreshed m checksum state size)
-    ≡ record { state = state; trials = 0xFF; checksum = checksum; size = size; baud = baudOf m; reserved = reservedOf m }
+    ≡ record { state = state; trials = 0xFF; checksum = checksum; size = size; baud = baudOf m; position = positionOf m; reserved = reservedOf m }
 refreshed-fields m n = refreshed-cells (whole m n)
 
--- one byte stored: the field that it is, and every other kept
+-- stored alone: the fields that they are, and every other kept
 state-cells : {m : List ℕ} → Whole m → (v : ℕ) → fieldsOf (set m 0 v)
-    ≡ record { state = v; trials = trialsOf m; checksum = checksumOf m; size = sizeOf m; baud = baudOf m; reserved = reservedOf m }
+    ≡ record { state = v; trials = trialsOf m; checksum = checksumOf m; size = sizeOf m; baud = baudOf m; position = positionOf m; reserved = reservedOf m }
 state-cells (cells a b c d e f g h i j k l) v = refl
 
 trials-cells : {m : List ℕ} → Whole m → (v : ℕ) → fieldsOf (set m 1 v)
-    ≡ record { state = stateOf m; trials = v; checksum = checksumOf m; size = sizeOf m; baud = baudOf m; reserved = reservedOf m }
+    ≡ record { state = stateOf m; trials = v; checksum = checksumOf m; size = sizeOf m; baud = baudOf m; position = positionOf m; reserved = reservedOf m }
 trials-cells (cells a b c d e f g h i j k l) v = refl
 
-baud-cells : {m : List ℕ} → Whole m → (v : ℕ) → fieldsOf (set m 8 v)
-    ≡ record { state = stateOf m; trials = trialsOf m; checksum = checksumOf m; size = sizeOf m; baud = v; reserved = reservedOf m }
-baud-cells (cells a b c d e f g h i j k l) v = refl
+row-cells : {m : List ℕ} → Whole m → (v w : ℕ) → fieldsOf (rowSet m v w)
+    ≡ record { state = stateOf m; trials = trialsOf m; checksum = checksumOf m; size = sizeOf m; baud = v; position = w; reserved = reservedOf m }
+row-cells (cells a b c d e f g h i j k l) v w = refl
 
 pub advanced-fields : (m : List ℕ) → length m ≡ 12 → fieldsOf (advanced m)
-    ≡ record { state = half (stateOf m); trials = trialsOf m; checksum = checksumOf m; size = sizeOf m; baud = baudOf m; reserved = reservedOf m }
+    ≡ record {
+      state = half (stateOf m);
+      trials = trialsOf m;
+      checksum = checksumOf m;
+      size = sizeOf m;
+      baud = baudOf m;
+      position = positionOf m;
+      reserved = reservedOf m;
+    }
 advanced-fields m n = state-cells (whole m n) (half (stateOf m))
 
 pub trial-fields : (m : List ℕ) → length m ≡ 12 → fieldsOf (trialUsed m)
-    ≡ record { state = stateOf m; trials = half (trialsOf m); checksum = checksumOf m; size = sizeOf m; baud = baudOf m; reserved = reservedOf m }
+    ≡ record {
+      state = stateOf m;
+      trials = half (trialsOf m);
+      checksum = checksumOf m;
+      size = sizeOf m;
+      baud = baudOf m;
+      position = positionOf m;
+      reserved = reservedOf m;
+    }
 trial-fields m n = trials-cells (whole m n) (half (trialsOf m))
 
-pub baud-fields : (m : List ℕ) (baud : ℕ) → length m ≡ 12 → fieldsOf (baudSet m baud)
-    ≡ record { state = stateOf m; trials = trialsOf m; checksum = checksumOf m; size = sizeOf m; baud = baud; reserved = reservedOf m }
-baud-fields m baud n = baud-cells (whole m n) baud
+pub row-fields : (m : List ℕ) (baud position : ℕ) → length m ≡ 12 → fieldsOf (rowSet m baud position)
+    ≡ record { state = stateOf m; trials = trialsOf m; checksum = checksumOf m; size = sizeOf m; baud = baud; position = position; reserved = reservedOf m }
+row-fields m baud position n = row-cells (whole m n) baud position
+
+-- the position alone, where no number need fit
+refreshed-place : {m : List ℕ} → Whole m → (checksum state size : ℕ) → positionOf (refreshed m checksum state size) ≡ positionOf m
+refreshed-place (cells a b c d e f g h i j k l) checksum state size = refl
+
+pub refreshed-position : (m : List ℕ) → length m ≡ 12 → (checksum state size : ℕ) → positionOf (refreshed m checksum state size) ≡ positionOf m
+refreshed-position m n = refreshed-place (whole m n)
+
+pub advanced-position : (m : List ℕ) → length m ≡ 12 → positionOf (advanced m) ≡ positionOf m
+advanced-position m n = ap (λ (r : Fields). r .position) (advanced-fields m n)
 
 -- lengths are kept, whatever the length
 pub refreshed-length : (m : List ℕ) (checksum state size : ℕ) → length (refreshed m checksum state size) ≡ length m
@@ -100,8 +136,8 @@ advanced-length m = length-set m 0 (half (stateOf m))
 pub trial-length : (m : List ℕ) → length (trialUsed m) ≡ length m
 trial-length m = length-set m 1 (half (trialsOf m))
 
-pub baud-length : (m : List ℕ) (baud : ℕ) → length (baudSet m baud) ≡ length m
-baud-length m baud = length-set m 8 baud
+pub row-length : (m : List ℕ) (baud position : ℕ) → length (rowSet m baud position) ≡ length m
+row-length m baud position = length-sets m 8 (baud ∷ position ∷ [])
 
 -- never above what it was: a byte stays a byte
 pub half-le : (x : ℕ) → half x ≤ x

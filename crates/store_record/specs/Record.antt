@@ -1,4 +1,4 @@
--- The record (01, Record, flash, start): twelve bytes, which hold the fields below and three that are reserved. A byte past the end of a shorter one reads
+-- The record (01, Record, flash, start): twelve bytes, which hold the fields below and two that are reserved. A byte past the end of a shorter one reads
 -- as 0xFF, and a store there changes nothing.
 use Prim.Native.Nat.{ℕ, zero, suc, _/_, _%_, max}
 use mathlib.Core.Bool.{Bool}
@@ -27,8 +27,12 @@ sizeOf m = lowFirst (getD m 4 0xFF ∷ getD m 5 0xFF ∷ getD m 6 0xFF ∷ getD 
 abbrev pub baudOf : List ℕ → ℕ
 baudOf m = getD m 8 0xFF
 
+-- the place in the row (E10), 0xFF for none
+abbrev pub positionOf : List ℕ → ℕ
+positionOf m = getD m 9 0xFF
+
 abbrev pub reservedOf : List ℕ → List ℕ
-reservedOf m = drop 9 m
+reservedOf m = drop 10 m
 
 -- whether the record says that an update is under way, or waits for its trial
 abbrev pub updating : List ℕ → Bool
@@ -37,13 +41,13 @@ updating m = eqb (stateRead (stateOf m)) 0x7F
 abbrev pub validating : List ℕ → Bool
 validating m = eqb (stateRead (stateOf m)) 0x3F
 
--- a rewrite: state, all trials, checksum and size; baud and reserved bytes are kept
+-- a rewrite: state, all trials, checksum and size; baud, position and reserved bytes are kept
 abbrev pub refreshed : List ℕ → ℕ → ℕ → ℕ → List ℕ
 refreshed m checksum state size = sets m 0 (state ∷ 0xFF ∷ (lowBytes 2 checksum ++ lowBytes 4 size))
 
--- a rewrite of the baud alone, which keeps the trials too
-abbrev pub baudSet : List ℕ → ℕ → List ℕ
-baudSet m baud = set m 8 baud
+-- a rewrite of baud and position, which keeps the trials too
+abbrev pub rowSet : List ℕ → ℕ → ℕ → List ℕ
+rowSet m baud position = sets m 8 (baud ∷ position ∷ [])
 
 -- a step down: x AND x shifted right by one
 abbrev pub half : ℕ → ℕ

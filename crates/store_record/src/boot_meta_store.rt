@@ -10,9 +10,10 @@ ghost use mathlib.Core.Bool.{not};
 ghost use lib.Dec.{eqb};
 ghost use lib.ListN.{getD, set};
 ghost use Rattle.store_record.specs.State.{stateByte, stateRead};
-ghost use Rattle.store_record.specs.Record.{stateOf, updating, trialsOf, checksumOf, sizeOf, baudOf, half, advanced, trialUsed, baudSet, refreshed, startsLeft};
+ghost use Rattle.store_record.specs.Record.{stateOf, updating, trialsOf, checksumOf, sizeOf, baudOf, positionOf};
+ghost use Rattle.store_record.specs.Record.{half, advanced, trialUsed, rowSet, refreshed, startsLeft};
 
-// Where the fields stand; 9 to 11 are reserved, and kept.
+// Where the fields stand; 10 and 11 are reserved, and kept.
 const STATE: usize = 0;
 
 const TRIALS: usize = 1;
@@ -22,6 +23,8 @@ const CHECKSUM: usize = 2;
 const SIZE: usize = 4;
 
 const BAUD: usize = 8;
+
+const POSITION: usize = 9;
 
 pub fn boot_state(meta: &[u8]) -> BootState
     ensures { λ r. ⌜ stateByte r ≡ stateRead (stateOf (now (meta .entry))) ⌝ }
@@ -70,11 +73,19 @@ pub fn baud(meta: &[u8]) -> u8
     byte_at(meta, BAUD)
 }
 
-// A rewrite that keeps all else.
-pub fn set_baud(meta: &mut [u8], baud: u8)
-    ensures { λ r. ⌜ now (meta .exit) ≡ baudSet (now (meta .entry)) baud ⌝ }
+// The place in the row, 0xFF for none.
+pub fn position(meta: &[u8]) -> u8
+    ensures { λ r. ⌜ r ≡ positionOf (now (meta .entry)) ⌝ }
+{
+    byte_at(meta, POSITION)
+}
+
+// One rewrite of both, which keeps all else.
+pub fn set_row(meta: &mut [u8], baud: u8, position: u8)
+    ensures { λ r. ⌜ now (meta .exit) ≡ rowSet (now (meta .entry)) baud position ⌝ }
 {
     put(meta, BAUD, baud);
+    put(meta, POSITION, position);
 }
 
 // One byte loses a 1: a single store.
@@ -97,7 +108,7 @@ pub fn consume_trial(meta: &mut [u8])
     step_down(meta, TRIALS);
 }
 
-// A rewrite: the trials start anew, the baud and the reserved bytes are kept.
+// A rewrite: the trials start anew, baud, position and the reserved bytes are kept.
 pub fn refresh(meta: &mut [u8], checksum: u16, state: BootState, app_size: u32)
     ensures { λ r. ⌜ now (meta .exit) ≡ refreshed (now (meta .entry)) checksum (stateByte state) «app_size» ⌝ }
 {

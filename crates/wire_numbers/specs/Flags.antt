@@ -3,7 +3,7 @@ use Prim.Native.Nat.{ℕ, _/_, _%_, _^_}
 use mathlib.Core.Bool.{Bool}
 use lib.Dec.{eqb}
 
--- 01, Commands: flags bit 7 of Write, bits 0 and 1 of Reset; bit 0 is the lowest
+-- 01, Commands: flags bit 7 of Write, bits 0 and 1 of Reset, to which E10 adds bit 2; bit 0 is the lowest
 abbrev pub bitOf : ℕ → ℕ → ℕ
 bitOf k x = x / 2 ^ k % 2
 

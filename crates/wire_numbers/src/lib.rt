@@ -50,6 +50,8 @@ impl ResetFlags {
     pub const BOOTLOADER: u8 = 1;
     // The low address byte is the baud from now on.
     pub const BAUD: u8 = 2;
+    // The second address byte is the place in the row from now on. Ours: tinyboot ignores this bit.
+    pub const POSITION: u8 = 4;
 
     pub fn bootloader(self) -> bool
         ensures { λ r. ⌜ r ≡ bitSet 0 (self .bits) ⌝ }
@@ -61,6 +63,12 @@ impl ResetFlags {
         ensures { λ r. ⌜ r ≡ bitSet 1 (self .bits) ⌝ }
     {
         self.bits & Self::BAUD != 0
+    }
+
+    pub fn position(self) -> bool
+        ensures { λ r. ⌜ r ≡ bitSet 2 (self .bits) ⌝ }
+    {
+        self.bits & Self::POSITION != 0
     }
 
     pub fn run_mode(self) -> RunMode
