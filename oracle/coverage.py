@@ -3,7 +3,7 @@ counted where that limit alone decides. `wanted` has every point that the stored
 from collections import Counter
 
 import model
-from model import ADDRESS, BAUD, COMMAND, DATA, FLAGS, KEY_UNSET, LENGTH, RECEIVED_CRC, SELECT, STATE, STATUS, TRIALS, low_first
+from model import ADDRESS, BAUD, COMMAND, DATA, FLAGS, KEY_UNSET, LENGTH, POSITION, RECEIVED_CRC, SELECT, STATE, STATUS, TRIALS, low_first
 
 COMMANDS = ("Info", "Erase", "Write", "Verify", "Reset", "Select")
 STATUSES = ("Request", "Ok", "WriteError", "CrcMismatch", "AddrOutOfBounds", "Unsupported", "PayloadOverflow", "Incompatible")
@@ -212,6 +212,8 @@ class Counted(model.Device):
             self.note("Erase", *(["whole flash"] if count == capacity else []), *(["a run is open"] if self.state.next is not None else []))
             self.note("Erase", f"range right, length {length if length <= 2 else 'above 2'}")
             self.note("Erase state byte", f"{record[STATE]:02X}")
+            if state == "3F" and record[POSITION] != 0xFF:
+                self.note("Erase", "from Validating, over a position" + (" that a Reset stored" if self.placed else ""))
             if self.flash[address:address + count] != b"\xFF" * count:
                 self.note("Erase", "cells that were not FF")
         elif len(wrong) == 1:
@@ -289,7 +291,10 @@ class Counted(model.Device):
             self.note("Verify", "over a record with trials or baud")
         if self.state.next is not None:
             self.note("Verify", "a run is open")
-        return super().verify()
+        result = super().verify()
+        if self.record[STATE] == model.VALIDATING and self.record[POSITION] != 0xFF:
+            self.note("Verify", "recorded over a position" + (" that a Reset stored" if self.placed else ""))
+        return result
 
     def info(self):
         size, capacity = self.size(), self.setup.capacity
@@ -302,15 +307,21 @@ class Counted(model.Device):
         return super().info()
 
     def reset(self):
-        flags, baud = self.state.frame[FLAGS], self.state.frame[ADDRESS]
+        flags, baud, position = self.state.frame[FLAGS], self.state.frame[ADDRESS], self.state.frame[ADDRESS + 1]
         app = "an app" if self.app_present() else "no app"
         mode = "to Service" if flags & 1 else "hand-off"
         state = state_name(self.record[STATE])
-        self.note("Reset", f"{mode}, {app}, state {state}", f"flags {flags & 3}{', others set' if flags & 0xFC else ''}")
+        self.note("Reset", f"{mode}, {app}, state {state}", f"flags {flags & 7}{', others set' if flags & 0xF8 else ''}")
+        was, placed = self.record[POSITION], self.placed
         result = super().reset()
+        taken = result[0] == model.RESTART
+        self.note("Reset", f"flags {flags & 7} {'accepted' if taken else 'refused'}")
         if flags & 2:
-            taken = result[0] == model.RESTART
             self.note("Reset", f"baud {baud} stored" if taken and baud in (0, 13, 14, 255) else "another baud stored" if taken else "baud not stored, refused")
+        if flags & 4:
+            self.note("Reset", f"position {position} stored" if taken and position in (0, 15, 255) else "another position stored" if taken else "position not stored, refused")
+        if taken and was != 0xFF:
+            self.note("Reset", f"a position {'stored over another' if flags & 4 and position != was else 'stored again' if flags & 4 else 'kept'}" + (", that a Reset stored" if placed else ""))
         return result
 
     def select(self):
@@ -411,7 +422,8 @@ def wanted():
         "reading": ["AA AA 55", "AA and no 55", "55 behind the AA that ended a frame"],
         "piece": ["empty", "one byte", "longer", "ended with the frame", "went on behind the frame"],
         "begun at a call's end": range(64),
-        "Erase": [f"range right, state {state}" for state in STATE_NAMES] + ["end at capacity", "end below capacity", "whole flash", "a run is open", "cells that were not FF"]
+        "Erase": [f"range right, state {state}" for state in STATE_NAMES] + ["end at capacity", "end below capacity", "whole flash", "a run is open", "cells that were not FF",
+           "from Validating, over a position", "from Validating, over a position that a Reset stored"]
         + [f"range right, length {n}" for n in (0, 1, 2, "above 2")]
         + [f"refused by {what} alone, state {state}" for what in ("address", "count", "count 0", "end") for state in STATE_NAMES]
         + ["end one block above", "end further above", "count a multiple of 64 alone", "count no multiple of 64", "address a multiple of 64 alone", "address no multiple of 64"],
@@ -422,13 +434,17 @@ def wanted():
         + [f"no run, off a page's start by {n}" for n in (1, 32, 63)] + ["a run, off its end by +1", "a run, off its end by -1", "a run, at a page's start"],
         "Write fill before": range(64),
         "Write fill after": range(64),
-        "Verify": ["refused by state FF", "refused by state 3F"] + [f"taken, state {state}" for state in ODD_OR_UPDATING] + ["refused by state before size", "over a record with trials or baud", "a run is open"]
+        "Verify": ["refused by state FF", "refused by state 3F"] + [f"taken, state {state}" for state in ODD_OR_UPDATING] + ["refused by state before size", "over a record with trials or baud", "a run is open",
+           "recorded over a position", "recorded over a position that a Reset stored"]
         + [f"{key}, size {n}" for key in ("no key", "a key") for n in ("0", "1", "capacity", "capacity + 1", "above 16 bits")] + [f"a key, size {n}" for n in range(2, 11)]
         + [f"a key, {what}" for what in ("at no multiple of 4", "its place below 0", "right", "in the last place", "right but at no multiple of 4", *(f"wrong in byte {n}" for n in range(4)))],
         "Info": [f"size {n}" for n in ("0", "1", "2", "3", "capacity - 1", "capacity", "capacity + 1", "capacity + 2", "none", "elsewhere, below", "elsewhere, above")]
         + [f"baud {n}" for n in (0, 13, 14, 255)] + ["with data"],
         "Reset": [f"{mode}, {app}, state {state}" for mode in ("to Service", "hand-off") for app in ("an app", "no app") for state in ("FF", "7F", "3F", "another below 3F")]
-        + [f"flags {n}{others}" for n in range(4) for others in ("", ", others set")] + [f"baud {n} stored" for n in (0, 13, 14, 255)] + ["baud not stored, refused"],
+        + [f"flags {n}{others}" for n in range(8) for others in ("", ", others set")] + [f"flags {n} accepted" for n in range(8)] + [f"flags {n} refused" for n in (0, 2, 4, 6)]
+        + [f"baud {n} stored" for n in (0, 13, 14, 255)] + ["baud not stored, refused"]
+        + [f"position {n} stored" for n in (0, 15, 255)] + ["position not stored, refused", "a position kept", "a position stored over another"]
+        + [f"a position {how}, that a Reset stored" for how in ("kept", "stored over another")],
         "select": [f"id of {n}, {what}" for n in range(1, 17) for what in ("match", "no match")] + [f"length {n}" for n in (0, 1, 2, "above 2")] + [f"seed mod 16 {n}" for n in range(16)]
         + [f"all bits right, count {n}" for n in ("0", "of all bits", "of all bits + 1", "255")] + ["selected by it", "deselected by it"]
         + [f"{what} {how}" for what in (*COMMANDS[:5], "an error is silence") for how in ("selected", "not selected")],
