@@ -54,8 +54,11 @@ app-size κs a o o' p q i = (plain p q i, o .1)
 pub baud : Determined «store_record».boot_meta_store.baud.ended «store_record».boot_meta_store.baud.Reads.Post
 baud κs a o o' p q i = (plain p q i, o .1)
 
-pub set-baud : Determined «store_record».boot_meta_store.set_baud.ended «store_record».boot_meta_store.set_baud.Reads.Post
-set-baud κs a o o' p q i = (tt, (plain p q i, (tt, tt)))
+pub position : Determined «store_record».boot_meta_store.position.ended «store_record».boot_meta_store.position.Reads.Post
+position κs a o o' p q i = (plain p q i, o .1)
+
+pub set-row : Determined «store_record».boot_meta_store.set_row.ended «store_record».boot_meta_store.set_row.Reads.Post
+set-row κs a o o' p q i = (tt, (plain p q i, (tt, (tt, tt))))
 
 pub advance : Determined «store_record».boot_meta_store.advance.ended «store_record».boot_meta_store.advance.Reads.Post
 advance κs a o o' p q i = (tt, (plain p q i, tt))

@@ -20,6 +20,9 @@ bootloader κs a o o' p q i = (plain p q i, o .1)
 pub baud : Determined wire_numbers.ResetFlags.baud.ended wire_numbers.ResetFlags.baud.Reads.Post
 baud κs a o o' p q i = (plain p q i, o .1)
 
+pub position : Determined wire_numbers.ResetFlags.position.ended wire_numbers.ResetFlags.position.Reads.Post
+position κs a o o' p q i = (plain p q i, o .1)
+
 pub run-mode : Determined wire_numbers.ResetFlags.run_mode.ended wire_numbers.ResetFlags.run_mode.Reads.Post
 run-mode κs a o o' p q i = (mode-apart (o .0) (o' .0) (plain p q) i, o .1)
 

@@ -112,7 +112,8 @@ enum tinyboot_meta {
     TINYBOOT_META_AT_CHECKSUM = 2,   /* 2 bytes; 0xFFFF: none */
     TINYBOOT_META_AT_IMAGE_SIZE = 4, /* 4 bytes */
     TINYBOOT_META_AT_BAUD = 8,       /* a rate's index, docs/WIRE.md; 14 and above: the firmware's own */
-    TINYBOOT_META_AT_RESERVED = 9    /* 3 bytes, kept */
+    TINYBOOT_META_AT_POSITION = 9,   /* the place in the row, as a Reset stored it; 0xFF: none */
+    TINYBOOT_META_AT_RESERVED = 10   /* 2 bytes, kept */
 };
 enum tinyboot_state_byte { TINYBOOT_IDLE = 0xFF, TINYBOOT_UPDATING = 0x7F, TINYBOOT_VALIDATING = 0x3F };
 
@@ -136,6 +137,7 @@ enum tinyboot_command {
 enum tinyboot_flags {
     TINYBOOT_RESET_BOOTLOADER = 0x01, /* Reset: stay in the bootloader */
     TINYBOOT_RESET_BAUD = 0x02,       /* Reset: the low address byte is a rate's index, to be stored */
+    TINYBOOT_RESET_POSITION = 0x04,   /* Reset: the second address byte is the place in the row, to be stored; not tinyboot's */
     TINYBOOT_WRITE_FLUSH = 0x80       /* Write: the last of its run */
 };
 enum tinyboot_status {
