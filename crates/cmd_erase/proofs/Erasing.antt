@@ -1,6 +1,6 @@
 -- An Erase, case by case; and what it keeps.
 use Prim.Native.Nat.{ℕ, _+_, _-_, _%_, _≤_, _<_}
-use mathlib.Core.Path.{_≡_, refl, sym, _∙_}
+use mathlib.Core.Path.{_≡_, refl}
 use mathlib.Core.List.{List}
 use mathlib.Core.Bool.{Bool, true, false, not, _&&_, _||_}
 use native.Mathlib.Nat.{dvd-trans, dvd-add, mod-eq-zero-of-dvd, dvd-of-mod-eq-zero}

@@ -1,7 +1,7 @@
 -- The bench sheet's rows 7 and 8, computed (01, Bench sheet), over a flash of 128 cells; with what each leaves.
 use Prim.Native.Nat.{ℕ}
 use mathlib.Core.Path.{_≡_, refl}
-use mathlib.Core.List.{List, [], _∷_, _++_}
+use mathlib.Core.List.{List, _∷_}
 use lib.ListN.{replicate}
 use Rattle.laws.specs.Fold.{fold}
 use Rattle.wire_numbers.specs.Crc.{entered, bits, bitsOf, crcFrom}

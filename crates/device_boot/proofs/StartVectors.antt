@@ -2,7 +2,7 @@
 -- (oracle/tests/start), but for the last row, where it leaves its domain and 01 decides.
 use Prim.Native.Nat.{ℕ}
 use mathlib.Core.Path.{_≡_, refl}
-use mathlib.Core.List.{List, [], _∷_, _++_}
+use mathlib.Core.List.{List, [], _∷_}
 use lib.ListN.{replicate}
 use Rattle.laws.specs.Fold.{fold}
 use Rattle.wire_numbers.specs.Crc.{entered, bits, bitsOf, crcFrom}

@@ -1,20 +1,19 @@
 -- The decision of a start, case by case.
 use Prim.Native.Nat.{ℕ, _+_, _≤_, _<_}
-use mathlib.Core.Path.{_≡_, refl, sym, ap, _∙_}
+use mathlib.Core.Path.{_≡_, refl, sym, _∙_}
 use mathlib.Core.List.{List}
 use mathlib.Core.Bool.{Bool, true, false, not, _&&_}
 use mathlib.Core.Logic.{_⊎_, inl, inr, ⊎-elim}
-use native.Mathlib.Omega.{arith}
 use borrow.Author.Tests.{eq-eqb, ne-eqb, le-leb, lt-leb, eqb-true, eqb-false}
 use Rattle.laws.specs.Pick.{pick}
 use Rattle.store_record.proofs.Record.{none-kept}
 use Rattle.store_record.proofs.Bytes.{one-less}
-use lib.ListN.{take, set}
-use lib.Dec.{leb, eqb}
+use lib.ListN.{take}
+use lib.Dec.{eqb}
 use Rattle.wire_numbers.specs.Crc.{crcOf}
 use Rattle.store_record.specs.State.{stateRead, appPresent}
 use Rattle.store_record.specs.Record.{stateOf, trialsOf, checksumOf, sizeOf, half, startsLeft, trialUsed}
-use Rattle.device_boot.specs.Start.{validOf, Clearance, clears, triedOf, clearedOf, Decision, stays, checkedOf, startOf}
+use Rattle.device_boot.specs.Start.{validOf, Clearance, clears, triedOf, clearedOf, stays, checkedOf, startOf}
 
 module _ (capacity : ℕ) (flash meta : List ℕ) where
   pub valid-bare : checksumOf meta ≡ 0xFFFF → validOf capacity flash meta ≡ appPresent flash

@@ -1,15 +1,14 @@
 -- What a call that is not refused may count on, and its two ends.
 use Prim.Native.Nat.{ℕ, suc, _+_}
 use mathlib.Core.Path.{_≡_, refl, sym, ap, _∙_}
-use mathlib.Core.Bool.{Bool, true, false, not, _&&_}
+use mathlib.Core.Bool.{Bool, true, false, not}
 use mathlib.Core.List.{List, _++_}
 use lib.ListN.{length}
-use lib.Dec.{eqb, leb, ltb}
+use lib.Dec.{eqb, ltb}
 use native.Mathlib.Omega.{arith}
 use borrow.Author.Tests.{eqb-true}
 use Rattle.laws.specs.Pick.{pick}
 use Rattle.laws.proofs.Bools.{and-both}
-use Rattle.wire_frames.specs.declared.frame.Kind.{Kind}
 use Rattle.wire_frames.specs.Reading.{readFrame, Outcome, Begun, Ended}
 use Rattle.wire_frames.specs.Stored.{begun, ready, Said, quiet, ended, noBeginning, Read, outOf, wellOf, readOf}
 use Rattle.device_state.specs.declared.Setup.{Setup}

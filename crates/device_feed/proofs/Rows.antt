@@ -5,7 +5,6 @@ use mathlib.Core.Path.{_≡_, refl}
 use mathlib.Core.List.{List, [], _∷_, _++_}
 use mathlib.Core.Bool.{false}
 use lib.ListN.{take, replicate}
-use Rattle.laws.specs.Low.{lowBytes}
 use Rattle.cmd_reset.specs.Reset.{resetRefused, resetOf}
 use Rattle.device_state.specs.declared.Setup.{Setup}
 use Rattle.device_start.specs.Starts.{newState}

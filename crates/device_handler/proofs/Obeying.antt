@@ -1,19 +1,18 @@
 -- The command of a request, and a Verify's two ends.
 use Prim.Native.Nat.{ℕ, _<_}
-use mathlib.Core.Path.{_≡_, refl, sym, ap}
+use mathlib.Core.Path.{_≡_, refl, ap}
 use mathlib.Core.Bool.{Bool, true, false}
-use mathlib.Core.List.{List}
 use lib.Dec.{eqb, leb}
 use native.Mathlib.Omega.{arith}
 use borrow.Author.Tests.{ne-eqb, leb-false}
 use Rattle.laws.specs.Pick.{pick}
-use Rattle.laws.specs.Lookup.{Lookup, none, some}
+use Rattle.laws.specs.Lookup.{none, some}
 use Rattle.wire_numbers.specs.Names.{cmdLookup}
 use Rattle.wire_frames.specs.Fields.{Unsupported}
 use Rattle.cmd_verify.specs.Verify.{Verified}
 use Rattle.device_state.specs.declared.Setup.{Setup}
 use Rattle.device_state.specs.State.{World, frameSet, metaSet}
-use Rattle.device_handler.specs.Handling.{Obeyed, bare, loaded, crcLaid, afterVerify, handledBy}
+use Rattle.device_handler.specs.Handling.{bare, loaded, crcLaid, afterVerify, handledBy}
 
 -- a number that is found is that of its command
 pub found : (n b : ℕ) → some n ≡ cmdLookup b → n ≡ b

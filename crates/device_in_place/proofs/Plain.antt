@@ -1,24 +1,21 @@
 -- A byte that is only stored: where it stands, and that storing it is what reading it gives.
 use Prim.Native.Nat.{ℕ, _+_, _≤_, _<_}
-use mathlib.Core.Path.{_≡_, refl, ap, sym, _∙_}
-use mathlib.Core.List.{List, [], _∷_, _++_, append-nil}
+use mathlib.Core.Path.{_≡_, refl, sym, _∙_}
+use mathlib.Core.List.{List, [], _∷_}
 use mathlib.Core.Bool.{Bool, true, false, _&&_, _||_}
 use mathlib.Core.Logic.{_⊎_, inl, inr}
 use native.Mathlib.Omega.{arith}
-use borrow.Author.Tests.{ltb-true, ltb-false, lt-ltb, le-ltb, le-leb, lt-leb, leb-true, eqb-true}
-use lib.ListN.{length, take, drop, set}
+use borrow.Author.Tests.{ltb-true, lt-ltb, le-ltb, le-leb, lt-leb, leb-true, eqb-true}
+use lib.ListN.{length, set}
 use lib.Dec.{ltb, leb, eqb}
-use Rattle.laws.specs.Pick.{pick}
-use Rattle.laws.specs.Over.{over}
 use Rattle.laws.proofs.Bools.{and-both, or-either}
 use Rattle.laws.proofs.Lists.{over-set}
 use Rattle.wire_frames.specs.declared.frame.End.the-variants.{Going}
 use Rattle.wire_frames.specs.Fields.{lenOf}
-use Rattle.wire_frames.specs.Reading.{verdictOf, readFrame}
-use Rattle.wire_frames.specs.Stored.{begun, ready, goes, wellOf, Well, After, Read, quiet, outOf, partOf}
+use Rattle.wire_frames.specs.Reading.{verdictOf}
+use Rattle.wire_frames.specs.Stored.{ready, goes, wellOf, Well, After, quiet, partOf}
 use Rattle.device_in_place.specs.Byte.{plainAt, laidTo, layByteOf}
 use Rattle.wire_frames.proofs.Steps.{header-step, data-step, stays, well-small}
-use Rattle.wire_frames.proofs.Start.{Started}
 use Rattle.wire_frames.proofs.Parts.{part-length, part-start, part-read}
 
 module _ (f : List ℕ) (g : ℕ) where

@@ -11,14 +11,14 @@ use lib.Dec.{leb, eqb}
 use Rattle.laws.specs.Pick.{pick}
 use Rattle.laws.proofs.Bools.{and-both}
 use Rattle.laws.proofs.Lists.{take-set}
-use Rattle.wire_frames.specs.Stored.{wellOf, Read, quiet, readOf, partOf}
+use Rattle.wire_frames.specs.Stored.{wellOf, quiet, readOf}
 use Rattle.wire_frames.proofs.Parts.{part-of-whole}
 use Rattle.device_state.specs.declared.Setup.{Setup}
 use Rattle.device_state.specs.declared.Numbers.{Numbers}
 use Rattle.device_state.specs.Refusals.{setUp, runFits, wellFormed, lengthsOf, refusalOf}
 use Rattle.device_replies.specs.Answers.{mute}
 use Rattle.device_state.specs.State.{gotSet}
-use Rattle.device_feed.specs.Feed.{Called, fedOf}
+use Rattle.device_feed.specs.Feed.{fedOf}
 use Rattle.device_feed.proofs.Feeding.{call-quiet, call-taken}
 use Rattle.device_in_place.specs.On.{frameIn, pageIn, worldIn}
 use Rattle.device_in_place.specs.Byte.{plainAt, Laid, laidTo, layByteOf, clearOf, byteOn}

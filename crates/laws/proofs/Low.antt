@@ -1,6 +1,6 @@
 -- Bytes and the number that they stand for: one law over the width, each way.
 use Prim.Native.Nat.{ℕ, zero, suc, _+_, _*_, _/_, _%_, _^_, _<_, suc-le-suc}
-use mathlib.Core.Path.{_≡_, refl, ap, ap₂, sym, _∙_}
+use mathlib.Core.Path.{_≡_, refl}
 use mathlib.Core.List.{List, [], _∷_}
 use native.Mathlib.Nat.{zero-lt-suc, pow-zero, pow-suc, mod-one, one-le-pow}
 use native.Mathlib.Omega.{arith}

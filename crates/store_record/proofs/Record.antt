@@ -5,7 +5,7 @@ use Prim.Native.Nat.{ℕ, _≤_, _<_, _/_}
 use native.Mathlib.Nat.{mod-eq-of-lt}
 use lib.Bits.{and-le-l}
 use native.Mathlib.Omega.{arith}
-use lib.ListN.{length, getD, set, length-set}
+use lib.ListN.{length, set, length-set}
 use lib.Seq.{length-sets, set-getD}
 use Rattle.laws.specs.Low.{lowFirst, lowBytes}
 use Rattle.laws.proofs.Low.{low-read}

@@ -1,9 +1,9 @@
 -- A feed on a state that stays in its bytes: its numbers are laid behind the arrays.
 use Prim.Native.Nat.{ℕ, _+_, _≤_}
 use mathlib.Core.Path.{_≡_, refl, ap, sym, _∙_}
-use mathlib.Core.List.{List, [], _++_, append-nil, append-assoc}
+use mathlib.Core.List.{List, _++_, append-nil, append-assoc}
 use native.Mathlib.Omega.{arith}
-use lib.ListN.{length, drop, length-append, length-drop, drop-of-length-le}
+use lib.ListN.{length, length-append, length-drop, drop-of-length-le}
 use lib.Seq.{paste}
 use Rattle.laws.specs.Over.{over}
 use Rattle.device_replies.specs.Answers.{Told, toldOf}

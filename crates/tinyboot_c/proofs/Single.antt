@@ -1,5 +1,5 @@
 -- One byte that is only stored: the state's bytes after it.
-use Prim.Native.Nat.{ℕ, zero, suc, _+_, _%_, _<_}
+use Prim.Native.Nat.{ℕ, _+_, _%_, _<_}
 use mathlib.Core.Path.{_≡_, refl, ap, sym, _∙_}
 use mathlib.Core.Bool.{Bool, true}
 use mathlib.Core.List.{List, [], _∷_, _++_, append-assoc}
@@ -12,7 +12,7 @@ use Rattle.laws.specs.Over.{over}
 use Rattle.device_state.specs.declared.Numbers.{Numbers}
 use Rattle.device_replies.specs.Answers.{Told, mute}
 use Rattle.device_state.specs.State.{gotSet, stateWith}
-use Rattle.device_feed.specs.Feed.{Called, fedOf}
+use Rattle.device_feed.specs.Feed.{Called}
 use Rattle.device_in_place.specs.On.{frameIn, pageIn}
 use Rattle.device_in_place.specs.Byte.{laidTo, byteOn}
 use Rattle.device_in_place.proofs.Quick.{byte-laid, byte-within, byte-fed}

@@ -15,7 +15,7 @@ use Rattle.laws.specs.Pick.{pick}
 use Rattle.wire_frames.specs.Fields.{lenOf}
 use Rattle.wire_frames.specs.Reading.{Hunt, Open, Sync, hunt, verdictOf, checked, judged, started, fromHunt, Outcome, Begun, Ended, readFrame}
 use Rattle.wire_frames.proofs.Cut.{cut-begun, cut-ended, started-begun}
-use Rattle.wire_frames.specs.Stored.{Said, quiet, ended, noBeginning, Read, begun, store, outOf, ready, goes, wellOf, readOf, Well, After}
+use Rattle.wire_frames.specs.Stored.{quiet, ended, noBeginning, Read, begun, store, outOf, ready, goes, wellOf, readOf, Well, After}
 use Rattle.wire_frames.proofs.Reading as reading
 use Rattle.laws.proofs.Lists.{over-take}
 use Rattle.wire_frames.proofs.Storing.{store-short, forget, Held, held}

@@ -1,6 +1,6 @@
 -- A frame in a slice: one that is as long as a frame and passes the test is read, any other is refused.
 use Prim.Native.Nat.{ℕ, _+_}
-use mathlib.Core.Path.{_≡_, refl, sym}
+use mathlib.Core.Path.{_≡_, refl}
 use mathlib.Core.List.{List, _++_}
 use mathlib.Core.Bool.{Bool, true, false, _&&_}
 use borrow.Author.Tests.{eq-eqb, eqb-true}
@@ -8,7 +8,7 @@ use lib.ListN.{length}
 use lib.Dec.{eqb}
 use Rattle.laws.proofs.Bools.{and-both}
 use Rattle.wire_frames.specs.Reading.{readFrame}
-use Rattle.wire_frames.specs.Stored.{begun, ready, wellOf, Read, noBeginning, outOf, readOf, partOf}
+use Rattle.wire_frames.specs.Stored.{begun, ready, wellOf, noBeginning, outOf, readOf, partOf}
 use Rattle.wire_frames.proofs.Start.{Started, start-of}
 
 module _ (cap : ℕ) (device : Bool) (f : List ℕ) (g : ℕ) where

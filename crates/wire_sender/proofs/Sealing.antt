@@ -1,13 +1,11 @@
 -- What a sent frame holds.
 use Prim.Native.Nat.{ℕ, _+_, _/_, _%_, _≤_, _<_}
-use mathlib.Core.Path.{_≡_, refl, ap, sym, _∙_}
+use mathlib.Core.Path.{_≡_, ap, sym, _∙_}
 use mathlib.Core.List.{List, [], _∷_, _++_, append-assoc}
-use mathlib.Core.Bool.{true, false}
 use native.Mathlib.Omega.{arith}
 use borrow.Author.Tests.{le-leb, lt-leb}
 use lib.ListN.{length, take, drop, set, length-append, length-drop}
 use lib.Seq.{take-at, length-take-le}
-use lib.Dec.{leb}
 use Rattle.laws.specs.Over.{over}
 use Rattle.laws.proofs.Lists.{over-set, over-over}
 use Rattle.wire_numbers.specs.Crc.{crcOf}

@@ -1,7 +1,6 @@
 use Rattle.c_layout.specs.Layout.{holdsState}
 use borrow.Author.Tests.{eq-eqb, ne-eqb, le-ltb}
 use Rattle.c_layout.proofs.Holding.{holds-last}
-use native.Mathlib.Omega.{arith}
 use borrow.Author.Needs.{needs}
 use Rattle.c_layout.proofs.holds_state.Statement.{statement}
 use Rattle.c_layout.proofs.holds_state.Tie as tie

@@ -1,7 +1,6 @@
 use Rattle.c_start.specs.Start.{startTold}
 use mathlib.Core.Path.{sym, _∙_}
 use Rattle.c_layout.proofs.Answering.{answer-laid}
-use native.Mathlib.Omega.{arith}
 use borrow.Author.Needs.{needs}
 use Rattle.c_start.proofs.lay_start.Statement.{statement}
 use Rattle.c_start.proofs.lay_start.Tie as tie

@@ -1,6 +1,4 @@
 use Rattle.c_start.proofs.Cases.{asked-app, asked-service}
-use native.Mathlib.Omega.{arith}
-use borrow.Author.Needs.{needs}
 use Rattle.c_start.proofs.mode_of.Statement.{statement}
 use Rattle.c_start.proofs.mode_of.Tie as tie
 

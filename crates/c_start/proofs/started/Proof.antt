@@ -3,7 +3,6 @@ use Rattle.device_start.specs.Starts.{startedTo}
 use Rattle.c_layout.specs.Layout.{stateBytes}
 use Rattle.c_start.specs.Start.{asked}
 use Rattle.c_start.proofs.Cases.{start-laid, start-kept, new-started}
-use native.Mathlib.Omega.{arith}
 use borrow.Author.Needs.{needs}
 use Rattle.c_start.proofs.started.Statement.{statement}
 use Rattle.c_start.proofs.started.Tie as tie

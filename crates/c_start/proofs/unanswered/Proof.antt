@@ -1,6 +1,5 @@
 use mathlib.Core.Path.{_∙_}
 use Rattle.c_start.proofs.Cases.{roomless-new}
-use native.Mathlib.Omega.{arith}
 use borrow.Author.Needs.{needs}
 use Rattle.c_start.proofs.unanswered.Statement.{statement}
 use Rattle.c_start.proofs.unanswered.Tie as tie

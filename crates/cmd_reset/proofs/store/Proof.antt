@@ -1,5 +1,5 @@
 -- One rewrite of both, or none.
-use mathlib.Core.Path.{_≡_, _∙_}
+use mathlib.Core.Path.{_∙_}
 use Rattle.cmd_reset.proofs.Resetting.{stored-both, stored-none}
 use borrow.Author.Needs.{needs}
 use Rattle.cmd_reset.proofs.store.Statement.{statement}

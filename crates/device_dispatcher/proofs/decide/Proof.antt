@@ -2,7 +2,6 @@ use Rattle.device_state.specs.State.{world}
 use Rattle.device_dispatcher.proofs.Replying.{to-none, to-all, damaged, a-select, for-me, for-another}
 use borrow.Author.Tests.{not-true, not-false, eq-eqb, ne-eqb}
 use mathlib.Core.Path.{sym, _∙_}
-use native.Mathlib.Omega.{arith}
 use borrow.Author.Needs.{needs}
 use Rattle.device_dispatcher.proofs.decide.Statement.{statement}
 use Rattle.device_dispatcher.proofs.decide.Tie as tie

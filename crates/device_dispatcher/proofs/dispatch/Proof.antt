@@ -1,6 +1,5 @@
 use Rattle.device_dispatcher.proofs.Replying.{answered}
 use mathlib.Core.Path.{_∙_}
-use native.Mathlib.Omega.{arith}
 use borrow.Author.Needs.{needs}
 use Rattle.device_dispatcher.proofs.dispatch.Statement.{statement}
 use Rattle.device_dispatcher.proofs.dispatch.Tie as tie

@@ -1,6 +1,5 @@
 use Rattle.device_dispatcher.specs.Dispatch.{obeyedOf}
 use mathlib.Core.Path.{sym, _∙_}
-use native.Mathlib.Omega.{arith}
 use borrow.Author.Needs.{needs}
 use Rattle.device_dispatcher.proofs.done.Statement.{statement}
 use Rattle.device_dispatcher.proofs.done.Tie as tie

@@ -1,4 +1,4 @@
-use lib.ListN.{length, take, length-take}
+use lib.ListN.{length, length-take}
 use mathlib.Core.Path.{_≡_}
 use native.Mathlib.Omega.{arith}
 use borrow.Author.Needs.{needs}

@@ -2,7 +2,6 @@ use lib.ListN.{length}
 use Rattle.device_dispatcher.specs.Dispatch.{idOf, chosen}
 use Rattle.device_state.specs.State.{world}
 use mathlib.Core.Path.{ap}
-use native.Mathlib.Omega.{arith}
 use borrow.Author.Needs.{needs}
 use Rattle.device_dispatcher.proofs.select.Statement.{statement}
 use Rattle.device_dispatcher.proofs.select.Tie as tie

@@ -1,6 +1,5 @@
 use Rattle.device_feed.proofs.Feeding.{allowed, call-taken, call-refused}
 use Rattle.device_state.specs.State.{world}
-use native.Mathlib.Omega.{arith}
 use borrow.Author.Needs.{needs}
 use Rattle.device_feed.proofs.feed_in.Statement.{statement}
 use Rattle.device_feed.proofs.feed_in.Tie as tie

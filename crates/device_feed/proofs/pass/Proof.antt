@@ -4,7 +4,6 @@ use mathlib.Core.Path.{_≡_, sym, _∙_}
 use Rattle.wire_frames.specs.Stored.{saidOf}
 use Rattle.device_feed.specs.Inner.{kindOf}
 use Rattle.wire_frames.proofs.Apart.{kind-apart}
-use native.Mathlib.Omega.{arith}
 use borrow.Author.Needs.{needs}
 use Rattle.device_feed.proofs.pass.Statement.{statement}
 use Rattle.device_feed.proofs.pass.Tie as tie

@@ -1,7 +1,6 @@
 use Rattle.device_state.specs.State.{world}
 use Rattle.device_handler.specs.Handling.{afterErase, afterWrite, afterReset}
 use mathlib.Core.Path.{refl, ap}
-use native.Mathlib.Omega.{arith}
 use borrow.Author.Needs.{needs}
 use Rattle.device_handler.proofs.carry.Statement.{statement}
 use Rattle.device_handler.proofs.carry.Tie as tie

@@ -1,9 +1,6 @@
 use Rattle.device_handler.proofs.Obeying.{verify-replied, verify-refused}
-use Rattle.wire_numbers.specs.Names.{statusNumber}
 use Rattle.device_state.specs.State.{world}
-use Rattle.cmd_verify.specs.Verify.{verifiedTo}
 use mathlib.Core.Path.{sym, _∙_}
-use native.Mathlib.Omega.{arith}
 use borrow.Author.Needs.{needs}
 use Rattle.device_handler.proofs.check.Statement.{statement}
 use Rattle.device_handler.proofs.check.Tie as tie

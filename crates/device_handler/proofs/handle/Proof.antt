@@ -3,7 +3,6 @@ use Rattle.device_handler.proofs.Obeying.{found, unfound}
 use Rattle.device_state.specs.State.{world}
 use Rattle.device_handler.specs.Handling.{handledOf}
 use Rattle.wire_numbers.specs.Names.{cmdNumber}
-use native.Mathlib.Omega.{arith}
 use borrow.Author.Needs.{needs}
 use Rattle.device_handler.proofs.handle.Statement.{statement}
 use Rattle.device_handler.proofs.handle.Tie as tie

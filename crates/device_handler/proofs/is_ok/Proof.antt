@@ -1,6 +1,5 @@
 use mathlib.Core.Path.{ap}
 use lib.Dec.{eqb}
-use native.Mathlib.Omega.{arith}
 use borrow.Author.Needs.{needs}
 use Rattle.device_handler.proofs.is_ok.Statement.{statement}
 use Rattle.device_handler.proofs.is_ok.Tie as tie

@@ -1,5 +1,4 @@
 use mathlib.Core.Path.{refl}
-use native.Mathlib.Omega.{arith}
 use borrow.Author.Needs.{needs}
 use Rattle.device_handler.proofs.lay_crc.Statement.{statement}
 use Rattle.device_handler.proofs.lay_crc.Tie as tie

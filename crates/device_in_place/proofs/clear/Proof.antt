@@ -2,7 +2,6 @@ use Prim.Native.Nat.{ℕ}
 use mathlib.Core.Path.{ap, sym, _∙_}
 use lib.Dec.{eqb}
 use Rattle.device_in_place.proofs.Quick.{clear-all, clear-run, clear-none}
-use native.Mathlib.Omega.{arith}
 use borrow.Author.Needs.{needs}
 use Rattle.device_in_place.proofs.clear.Statement.{statement}
 use Rattle.device_in_place.proofs.clear.Tie as tie

@@ -1,7 +1,6 @@
 use Rattle.device_in_place.specs.On.{restIn, onBy}
 use Rattle.device_feed.specs.Feed.{endedBy}
 use mathlib.Core.Path.{ap}
-use native.Mathlib.Omega.{arith}
 use borrow.Author.Needs.{needs}
 use Rattle.device_in_place.proofs.ended.Statement.{statement}
 use Rattle.device_in_place.proofs.ended.Tie as tie

@@ -2,11 +2,10 @@ use Rattle.device_state.specs.Refusals.{refusalNumber}
 use Rattle.device_feed.proofs.Feeding.{allowed, call-taken}
 use Rattle.device_in_place.specs.On.{restIn, worldIn, onBy}
 use Rattle.device_in_place.proofs.Placed.{on-long, on-refused, on-allowed}
-use Prim.Native.Nat.{ℕ, _≤_}
+use Prim.Native.Nat.{ℕ}
 use mathlib.Core.List.{List}
-use lib.ListN.{length, take}
-use mathlib.Core.Path.{_≡_, refl, ap, _∙_}
-use native.Mathlib.Omega.{arith}
+use lib.ListN.{take}
+use mathlib.Core.Path.{refl, ap, _∙_}
 use borrow.Author.Needs.{needs}
 use Rattle.device_in_place.proofs.feed_on.Statement.{statement}
 use Rattle.device_in_place.proofs.feed_on.Tie as tie

@@ -3,7 +3,6 @@ use mathlib.Core.Path.{_≡_, sym, _∙_}
 use lib.ListN.{length}
 use Rattle.wire_frames.proofs.Parts.{part-length}
 use Rattle.device_in_place.proofs.Plain.{plain-within, lay-done, lay-elsewhere, lay-none}
-use native.Mathlib.Omega.{arith}
 use borrow.Author.Needs.{needs}
 use Rattle.device_in_place.proofs.lay_byte.Statement.{statement}
 use Rattle.device_in_place.proofs.lay_byte.Tie as tie

@@ -8,7 +8,6 @@ use lib.ListN.{take}
 use mathlib.Core.Path.{_≡_, refl, sym, _∙_}
 use Rattle.device_feed.specs.Inner.{kindOf}
 use Rattle.wire_frames.proofs.Apart.{kind-apart}
-use native.Mathlib.Omega.{arith}
 use borrow.Author.Needs.{needs}
 use Rattle.device_in_place.proofs.pass.Statement.{statement}
 use Rattle.device_in_place.proofs.pass.Tie as tie

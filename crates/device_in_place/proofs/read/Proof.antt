@@ -5,7 +5,6 @@ use lib.ListN.{length, take, drop}
 use lib.Seq.{take-at, drop-at, length-take-le}
 use Rattle.wire_frames.specs.Stored.{seen}
 use mathlib.Core.Path.{_≡_, ap, sym, _∙_}
-use native.Mathlib.Omega.{arith}
 use borrow.Author.Needs.{needs}
 use Rattle.wire_frames.proofs.Parts.{part-of-whole}
 use Rattle.device_in_place.proofs.read.Statement.{statement}

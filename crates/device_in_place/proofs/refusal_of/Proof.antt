@@ -1,10 +1,7 @@
-use Prim.Native.Nat.{_≤_}
-use lib.ListN.{length}
 use Rattle.device_state.specs.Refusals.{refusalOf}
 use Rattle.device_in_place.specs.Inner.{refusalOn}
 use mathlib.Core.Path.{sym, _∙_}
 use borrow.Author.Tests.{not-true, not-false, lt-ltb, le-ltb}
-use native.Mathlib.Omega.{arith}
 use borrow.Author.Needs.{needs}
 use Rattle.device_in_place.proofs.refusal_of.Statement.{statement}
 use Rattle.device_in_place.proofs.refusal_of.Tie as tie

@@ -6,7 +6,6 @@ use lib.Dec.{eqb}
 use lib.Seq.{length-take-le}
 use Rattle.wire_frames.specs.Stored.{wellOf}
 use mathlib.Core.Path.{_≡_, sym, _∙_}
-use native.Mathlib.Omega.{arith}
 use borrow.Author.Needs.{needs}
 use borrow.Author.Tests.{eq-eqb}
 use Rattle.device_state.specs.Refusals.{wellFormed}

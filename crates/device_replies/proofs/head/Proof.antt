@@ -1,5 +1,4 @@
 use mathlib.Core.Path.{refl}
-use native.Mathlib.Omega.{arith}
 use borrow.Author.Needs.{needs}
 use Rattle.device_replies.proofs.head.Statement.{statement}
 use Rattle.device_replies.proofs.head.Tie as tie

@@ -3,7 +3,6 @@ use Rattle.device_replies.specs.declared.Answer.{Answer}
 use Rattle.device_replies.specs.declared.Said.{Said}
 use Rattle.device_replies.specs.Answers.{toldOf}
 use Rattle.device_replies.specs.Inner.{toldBy}
-use native.Mathlib.Omega.{arith}
 use borrow.Author.Needs.{needs}
 use Rattle.device_replies.proofs.numbers_of.Statement.{statement}
 use Rattle.device_replies.proofs.numbers_of.Tie as tie

@@ -2,7 +2,6 @@ use Rattle.wire_numbers.specs.Names.{statusNumber}
 use Rattle.device_replies.proofs.Replying.{reply-restart, reply-only}
 use Rattle.wire_numbers.specs.Flags.{bitOf}
 use mathlib.Core.Path.{ap, _∙_}
-use native.Mathlib.Omega.{arith}
 use borrow.Author.Needs.{needs}
 use Rattle.device_replies.proofs.reply.Statement.{statement}
 use Rattle.device_replies.proofs.reply.Tie as tie

@@ -1,7 +1,5 @@
-use mathlib.Core.Path.{_≡_, ap}
-use Rattle.device_boot.specs.Start.{Decision}
+use mathlib.Core.Path.{ap}
 use Rattle.device_start.specs.Starts.{decidedTo}
-use native.Mathlib.Omega.{arith}
 use borrow.Author.Needs.{needs}
 use Rattle.device_start.proofs.begun.Statement.{statement}
 use Rattle.device_start.proofs.begun.Tie as tie

@@ -1,5 +1,4 @@
 use mathlib.Core.Path.{refl}
-use native.Mathlib.Omega.{arith}
 use borrow.Author.Needs.{needs}
 use Rattle.device_start.proofs.hands_off.Statement.{statement}
 use Rattle.device_start.proofs.hands_off.Tie as tie

@@ -1,7 +1,6 @@
 use mathlib.Core.Path.{sym, _∙_}
 use borrow.Author.Tests.{not-true, not-false, eq-eqb, ne-eqb}
 use Rattle.device_start.specs.Starts.{startRefusal}
-use native.Mathlib.Omega.{arith}
 use borrow.Author.Needs.{needs}
 use Rattle.device_start.proofs.refuses.Statement.{statement}
 use Rattle.device_start.proofs.refuses.Tie as tie

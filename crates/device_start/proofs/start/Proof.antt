@@ -1,6 +1,5 @@
 use Rattle.wire_numbers.specs.Names.{modeNumber}
 use Rattle.device_start.proofs.Beginning.{start-taken, start-refused}
-use native.Mathlib.Omega.{arith}
 use borrow.Author.Needs.{needs}
 use Rattle.device_start.proofs.start.Statement.{statement}
 use Rattle.device_start.proofs.start.Tie as tie

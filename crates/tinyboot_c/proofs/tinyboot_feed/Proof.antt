@@ -2,7 +2,6 @@ use mathlib.Core.Path.{sym, _∙_}
 use borrow.Author.Tests.{eqb-true, not-true, not-false}
 use Rattle.c_layout.proofs.Holding.{holds-size}
 use Rattle.tinyboot_c.proofs.Cases.{feed-no-setup, feed-no-state, feed-short, feed-called}
-use native.Mathlib.Omega.{arith}
 use borrow.Author.Needs.{needs}
 use Rattle.tinyboot_c.proofs.tinyboot_feed.Statement.{statement}
 use Rattle.tinyboot_c.proofs.tinyboot_feed.Tie as tie

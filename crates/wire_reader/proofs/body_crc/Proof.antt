@@ -1,6 +1,5 @@
 use mathlib.Core.Path.{sym}
 use lib.Seq.{length-take-le}
-use native.Mathlib.Omega.{arith}
 use borrow.Author.Needs.{needs}
 use Rattle.wire_reader.proofs.body_crc.Statement.{statement}
 use Rattle.wire_reader.proofs.body_crc.Tie as tie

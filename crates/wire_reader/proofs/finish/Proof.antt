@@ -8,7 +8,6 @@ use Rattle.laws.specs.Pick.{pick}
 use Rattle.laws.specs.Low.{lowFirst}
 use Rattle.wire_frames.specs.declared.frame.Kind.{Kind}
 use Rattle.wire_numbers.specs.Crc.{crcOf}
-use Rattle.wire_frames.specs.Fields.{lenOf}
 use Rattle.wire_frames.specs.Reading.{checked}
 use Rattle.wire_frames.proofs.Reading.{checked-at}
 use native.Mathlib.Omega.{arith}

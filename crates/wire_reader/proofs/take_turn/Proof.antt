@@ -1,4 +1,4 @@
-use mathlib.Core.Path.{_≡_, sym, _∙_}
+use mathlib.Core.Path.{sym, _∙_}
 use Rattle.wire_frames.proofs.Steps.{wanted-none, wanted-fits, wanted-turn, byte-turn}
 use native.Mathlib.Omega.{arith}
 use borrow.Author.Needs.{needs}

@@ -1,8 +1,8 @@
-use Prim.Native.Nat.{_+_, _≤_, _<_}
-use mathlib.Core.Path.{_≡_, _∙_}
+use Prim.Native.Nat.{_+_, _≤_}
+use mathlib.Core.Path.{_≡_}
 use lib.ListN.{length}
 use Rattle.wire_frames.specs.Fields.{lenOf}
-use Rattle.wire_sender.proofs.Sealing.{sealed-length, send-long, send-short, send-done}
+use Rattle.wire_sender.proofs.Sealing.{send-long, send-short, send-done}
 use native.Mathlib.Omega.{arith}
 use borrow.Author.Needs.{needs}
 use Rattle.wire_sender.proofs.send.Statement.{statement}

@@ -1,4 +1,3 @@
-use native.Mathlib.Omega.{arith}
 use borrow.Author.Needs.{needs}
 use Rattle.bench.proofs.module.renewed.Statement.{statement}
 use Rattle.bench.proofs.module.renewed.Tie as tie

@@ -1,5 +1,4 @@
 use mathlib.Core.Path.{refl}
-use native.Mathlib.Omega.{arith}
 use borrow.Author.Needs.{needs}
 use Rattle.bench.proofs.script.turn.Statement.{statement}
 use Rattle.bench.proofs.script.turn.Tie as tie

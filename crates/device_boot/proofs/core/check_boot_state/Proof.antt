@@ -1,5 +1,4 @@
 use Rattle.device_boot.proofs.Starting.{start-asked, start-stays, start-judged}
-use native.Mathlib.Omega.{arith}
 use borrow.Author.Needs.{needs}
 use Rattle.device_boot.proofs.core.check_boot_state.Statement.{statement}
 use Rattle.device_boot.proofs.core.check_boot_state.Tie as tie

@@ -1,7 +1,6 @@
 use mathlib.Core.Path.{ap, _∙_}
 use Rattle.store_record.specs.State.{stateByte}
 use Rattle.device_boot.proofs.Starting.{clear-idle, clear-updating, clear-validating}
-use native.Mathlib.Omega.{arith}
 use borrow.Author.Needs.{needs}
 use Rattle.device_boot.proofs.core.cleared.Statement.{statement}
 use Rattle.device_boot.proofs.core.cleared.Tie as tie

@@ -1,8 +1,5 @@
-use Prim.Native.Nat.{_≤_, _<_}
-use mathlib.Core.Path.{_≡_, sym, _∙_, ap}
-use lib.Dec.{eqb}
+use mathlib.Core.Path.{sym, _∙_}
 use Rattle.device_boot.proofs.Starting.{valid-bare, valid-long, valid-crc}
-use native.Mathlib.Omega.{arith}
 use borrow.Author.Needs.{needs}
 use Rattle.device_boot.proofs.core.validate_app.Statement.{statement}
 use Rattle.device_boot.proofs.core.validate_app.Tie as tie

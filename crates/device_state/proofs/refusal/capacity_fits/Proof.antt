@@ -1,6 +1,5 @@
 use Rattle.device_state.specs.Refusals.{capacityFits}
 use borrow.Author.Tests.{eq-eqb, ne-eqb, le-leb, lt-leb}
-use native.Mathlib.Omega.{arith}
 use borrow.Author.Needs.{needs}
 use Rattle.device_state.proofs.refusal.capacity_fits.Statement.{statement}
 use Rattle.device_state.proofs.refusal.capacity_fits.Tie as tie

@@ -1,7 +1,5 @@
 use Rattle.device_state.specs.Refusals.{eraseSizeFits}
 use borrow.Author.Tests.{le-leb, lt-leb}
-use native.Mathlib.Omega.{arith}
-use borrow.Author.Needs.{needs}
 use Rattle.device_state.proofs.refusal.erase_fits.Statement.{statement}
 use Rattle.device_state.proofs.refusal.erase_fits.Tie as tie
 

@@ -1,6 +1,5 @@
 use mathlib.Core.Path.{sym, _∙_}
 use Rattle.device_state.specs.Refusals.{fits}
-use native.Mathlib.Omega.{arith}
 use borrow.Author.Needs.{needs}
 use Rattle.device_state.proofs.refusal.fits.Statement.{statement}
 use Rattle.device_state.proofs.refusal.fits.Tie as tie

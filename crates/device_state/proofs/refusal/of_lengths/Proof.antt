@@ -1,7 +1,5 @@
 use Rattle.device_state.specs.Refusals.{lengthsOf}
 use borrow.Author.Tests.{eq-eqb, ne-eqb, lt-ltb, le-ltb}
-use native.Mathlib.Omega.{arith}
-use borrow.Author.Needs.{needs}
 use Rattle.device_state.proofs.refusal.of_lengths.Statement.{statement}
 use Rattle.device_state.proofs.refusal.of_lengths.Tie as tie
 

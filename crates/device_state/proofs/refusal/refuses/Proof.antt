@@ -1,7 +1,6 @@
 use Rattle.device_state.specs.Refusals.{refusalOf}
 use mathlib.Core.Path.{sym, _∙_}
 use borrow.Author.Tests.{not-true, not-false}
-use native.Mathlib.Omega.{arith}
 use borrow.Author.Needs.{needs}
 use Rattle.device_state.proofs.refusal.refuses.Statement.{statement}
 use Rattle.device_state.proofs.refusal.refuses.Tie as tie

@@ -1,7 +1,5 @@
 use Rattle.device_state.specs.Refusals.{runFits}
 use borrow.Author.Tests.{eq-eqb, ne-eqb, lt-ltb, le-ltb, le-leb, lt-leb}
-use native.Mathlib.Omega.{arith}
-use borrow.Author.Needs.{needs}
 use Rattle.device_state.proofs.refusal.run_fits.Statement.{statement}
 use Rattle.device_state.proofs.refusal.run_fits.Tie as tie
 

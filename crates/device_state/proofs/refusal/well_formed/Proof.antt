@@ -1,6 +1,5 @@
 use mathlib.Core.Path.{sym, _∙_}
 use Rattle.device_state.specs.Refusals.{wellFormed}
-use native.Mathlib.Omega.{arith}
 use borrow.Author.Needs.{needs}
 use Rattle.device_state.proofs.refusal.well_formed.Statement.{statement}
 use Rattle.device_state.proofs.refusal.well_formed.Tie as tie

@@ -10,7 +10,6 @@ use Rattle.device_replies.specs.Inner.{toldBy}
 use Rattle.c_layout.proofs.Answering.{answer-laid}
 use Rattle.c_layout.proofs.Holding.{holds-size}
 use Rattle.tinyboot_c.proofs.Single.{byte-answered}
-use native.Mathlib.Omega.{arith}
 use borrow.Author.Needs.{needs}
 use Rattle.tinyboot_c.proofs.feeding.fed.Statement.{statement}
 use Rattle.tinyboot_c.proofs.feeding.fed.Tie as tie

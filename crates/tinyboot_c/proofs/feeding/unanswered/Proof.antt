@@ -1,5 +1,4 @@
 use mathlib.Core.Path.{_∙_}
-use native.Mathlib.Omega.{arith}
 use borrow.Author.Needs.{needs}
 use Rattle.tinyboot_c.proofs.feeding.unanswered.Statement.{statement}
 use Rattle.tinyboot_c.proofs.feeding.unanswered.Tie as tie

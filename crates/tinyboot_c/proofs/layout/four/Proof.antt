@@ -1,7 +1,6 @@
 use Rattle.tinyboot_c.proofs.Copies.{part-four}
 use Rattle.laws.specs.Low.{lowFirst}
 use mathlib.Core.Path.{sym, ap, _∙_}
-use native.Mathlib.Omega.{arith}
 use borrow.Author.Needs.{needs}
 use Rattle.tinyboot_c.proofs.layout.four.Statement.{statement}
 use Rattle.tinyboot_c.proofs.layout.four.Tie as tie

@@ -1,7 +1,6 @@
 use Rattle.tinyboot_c.proofs.Copies.{part-two}
 use Rattle.laws.specs.Low.{lowFirst}
 use mathlib.Core.Path.{sym, ap, _∙_}
-use native.Mathlib.Omega.{arith}
 use borrow.Author.Needs.{needs}
 use Rattle.tinyboot_c.proofs.layout.two.Statement.{statement}
 use Rattle.tinyboot_c.proofs.layout.two.Tie as tie

@@ -1,5 +1,4 @@
 use mathlib.Core.Path.{refl}
-use native.Mathlib.Omega.{arith}
 use borrow.Author.Needs.{needs}
 use Rattle.tinyboot_c.proofs.state.numbers_from.Statement.{statement}
 use Rattle.tinyboot_c.proofs.state.numbers_from.Tie as tie

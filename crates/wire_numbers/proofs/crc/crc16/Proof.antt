@@ -1,7 +1,7 @@
 use mathlib.Core.Path.{_≡_, _∙_}
-use Prim.Native.Nat.{_≤_, _<_, _-_}
+use Prim.Native.Nat.{_≤_, _-_}
 use native.Mathlib.Omega.{arith}
-use lib.ListN.{length, drop, getD}
+use lib.ListN.{length, drop}
 use borrow.Author.Needs.{needs}
 use Rattle.laws.proofs.Loops.{turned, ended}
 use Rattle.wire_numbers.specs.CrcSteps.{crcByte, crcBytes}
