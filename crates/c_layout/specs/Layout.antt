@@ -74,9 +74,9 @@ partBytes f page numbers = f ++ (page ++ numbers)
 abbrev pub stateBytes : State → List ℕ
 stateBytes s = partBytes (s .frame) (s .page) (numberBytes (s .numbers))
 
--- the 16 bytes of an answer: its number, its mode, the reply's length, the wait before it, how many bytes were taken
+-- the 16 bytes of an answer: its number, its mode, the reply's length, the wait before it, the reason of silence, two that are 0, how many bytes were taken
 abbrev pub answerBytes : Told → ℕ → List ℕ
-answerBytes t taken = t .number ∷ t .mode ∷ (lowBytes 2 (t .len) ++ (lowBytes 4 (t .wait) ++ lowBytes 8 taken))
+answerBytes t taken = t .number ∷ t .mode ∷ (lowBytes 2 (t .len) ++ (t .wait ∷ t .why ∷ 0 ∷ 0 ∷ lowBytes 8 taken))
 
 -- an answer in its buffer: the first 16 bytes; a buffer that has fewer stays as it is
 abbrev pub answered : Told → ℕ → List ℕ → List ℕ

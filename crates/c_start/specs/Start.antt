@@ -28,9 +28,9 @@ afterStart result state meta answer = record { result = result; state = state; m
 abbrev pub asked : ℕ → ℕ
 asked mode = if eqb mode 0 then 0 else 1
 
--- what a start says: no reply
+-- what a start says: no reply, and no reason
 abbrev pub startTold : ℕ → ℕ → Told
-startTold number mode = record { number = number; len = 0; wait = 0; mode = mode }
+startTold number mode = record { number = number; len = 0; wait = 0; mode = mode; why = 0 }
 
 -- no room, where nothing else refuses
 abbrev pub orNoRoom : ℕ → ℕ

@@ -82,6 +82,7 @@ fn lay_start(a: &mut [u8], refusal: Refusal, mode: RunMode) -> u8
         mode: mode_number(mode),
         len: 0,
         wait: 0,
+        why: 0,
     };
     lay_answer(a, said, 0)
 }

@@ -8,7 +8,7 @@ use lib.ListN.{take, replicate}
 use Rattle.cmd_reset.specs.Reset.{resetRefused, resetOf}
 use Rattle.device_state.specs.declared.Setup.{Setup}
 use Rattle.device_start.specs.Starts.{newState}
-use Rattle.device_replies.specs.Answers.{Told, mute, reply, restart}
+use Rattle.device_replies.specs.Answers.{Told, silence, reply, restart}
 use Rattle.device_feed.specs.Feed.{Called, fedOf}
 use Rattle.device_feed.proofs.Rules.{call-rules}
 
@@ -52,7 +52,7 @@ cases =
       reply =
           0xAA ∷ 0x55 ∷ 2 ∷ 6 ∷ 0 ∷ 0 ∷ 0 ∷ 0 ∷ 0 ∷ 0 ∷ 0xA9 ∷ 0xFD ∷ [];
     } ∷
-    record { idLen = 0; bytes = 0xAA ∷ 0x55 ∷ 2 ∷ 1 ∷ 0 ∷ 0 ∷ 0 ∷ 0 ∷ 0x35 ∷ 0 ∷ []; taken = 10; told = mute 1; reply = [] } ∷
+    record { idLen = 0; bytes = 0xAA ∷ 0x55 ∷ 2 ∷ 1 ∷ 0 ∷ 0 ∷ 0 ∷ 0 ∷ 0x35 ∷ 0 ∷ []; taken = 10; told = silence 1; reply = [] } ∷
     record {
       idLen = 0;
       bytes = 0 ∷ 0xAA ∷ 0xAA ∷ 0x55 ∷ 6 ∷ 0 ∷ 0 ∷ 0 ∷ 0 ∷ 0 ∷ 0 ∷ 0 ∷ [];
@@ -114,14 +114,15 @@ cases =
       bytes = 0xAA ∷ 0x55 ∷ 0 ∷ 0 ∷ 0 ∷ 0 ∷ 0 ∷ 0 ∷ 0x34 ∷ 0 ∷ (replicate {A = ℕ} 52 0 ++ (0x47 ∷ 1 ∷ []));
       taken = 64;
       told =
-          mute 1;
+          silence 4;
       reply = [];
     } ∷
-    record { idLen = 2; bytes = 0xAA ∷ 0x55 ∷ 2 ∷ 0 ∷ 0 ∷ 0 ∷ 0 ∷ 0 ∷ 0x35 ∷ 0 ∷ []; taken = 10; told = mute 1; reply = [] } ∷
-    record { idLen = 2; bytes = 0xAA ∷ 0x55 ∷ 2 ∷ 1 ∷ 0 ∷ 0 ∷ 0 ∷ 0 ∷ 0x35 ∷ 0 ∷ []; taken = 10; told = mute 1; reply = [] } ∷
-    record { idLen = 2; bytes = 0 ∷ 0xAA ∷ 0xAA ∷ 0x55 ∷ 6 ∷ 0 ∷ 0 ∷ 0 ∷ 0 ∷ 0 ∷ 0 ∷ 0 ∷ []; taken = 12; told = mute 1; reply = [] } ∷
-    record { idLen = 2; bytes = 0xAA ∷ 0x55 ∷ 6 ∷ 1 ∷ 0 ∷ 0 ∷ 0 ∷ 0 ∷ 0 ∷ 0 ∷ []; taken = 10; told = mute 1; reply = [] } ∷
-    record { idLen = 2; bytes = 0xAA ∷ 0x55 ∷ 4 ∷ 0 ∷ 0 ∷ 0 ∷ 0 ∷ 1 ∷ 0 ∷ 0 ∷ 0x77 ∷ 0xEB ∷ []; taken = 12; told = mute 1; reply = [] } ∷
+    record { idLen = 2; bytes = 0xAA ∷ 0x55 ∷ 2 ∷ 0 ∷ 0 ∷ 0 ∷ 0 ∷ 0 ∷ 0x35 ∷ 0 ∷ []; taken = 10; told = silence 2; reply = [] } ∷
+    record { idLen = 2; bytes = 0xAA ∷ 0x55 ∷ 2 ∷ 1 ∷ 0 ∷ 0 ∷ 0 ∷ 0 ∷ 0x35 ∷ 0 ∷ []; taken = 10; told = silence 1; reply = [] } ∷
+    record { idLen = 2; bytes = 0 ∷ 0xAA ∷ 0xAA ∷ 0x55 ∷ 6 ∷ 0 ∷ 0 ∷ 0 ∷ 0 ∷ 0 ∷ 0 ∷ 0 ∷ []; taken = 12; told = silence 2; reply = [] } ∷
+    record { idLen = 2; bytes = 0xAA ∷ 0x55 ∷ 6 ∷ 1 ∷ 0 ∷ 0 ∷ 0 ∷ 0 ∷ 0 ∷ 0 ∷ []; taken = 10; told = silence 2; reply = [] } ∷
+    record { idLen = 2; bytes = 0xAA ∷ 0x55 ∷ 4 ∷ 0 ∷ 0 ∷ 0 ∷ 0 ∷ 1 ∷ 0 ∷ 0 ∷ 0x77 ∷ 0xEB ∷ []; taken = 12; told = silence 4; reply = [] } ∷
+    record { idLen = 2; bytes = 0xAA ∷ 0x55 ∷ 4 ∷ 0 ∷ 0 ∷ 0 ∷ 0 ∷ 1 ∷ 0 ∷ 0 ∷ 0x77 ∷ 0xEA ∷ []; taken = 12; told = silence 3; reply = [] } ∷
     record {
       idLen = 2;
       bytes = 0xAA ∷ 0x55 ∷ 5 ∷ 0 ∷ 0 ∷ 0 ∷ 0 ∷ 0 ∷ 4 ∷ 0 ∷ 3 ∷ 9 ∷ 0x5A ∷ 0xFF ∷ 0x11 ∷ 0x80 ∷ [];
@@ -130,12 +131,12 @@ cases =
       reply =
           0xAA ∷ 0x55 ∷ 5 ∷ 1 ∷ 0 ∷ 0 ∷ 0 ∷ 0 ∷ 2 ∷ 0 ∷ 0x5A ∷ 1 ∷ 0x32 ∷ 0xF0 ∷ [];
     } ∷
-    record { idLen = 2; bytes = 0xAA ∷ 0x55 ∷ 5 ∷ 0 ∷ 0 ∷ 0 ∷ 0 ∷ 0 ∷ 4 ∷ 0 ∷ 3 ∷ 9 ∷ 0x5A ∷ 0 ∷ 0xE1 ∷ 0x9E ∷ []; taken = 16; told = mute 1; reply = [] } ∷
+    record { idLen = 2; bytes = 0xAA ∷ 0x55 ∷ 5 ∷ 0 ∷ 0 ∷ 0 ∷ 0 ∷ 0 ∷ 4 ∷ 0 ∷ 3 ∷ 9 ∷ 0x5A ∷ 0 ∷ 0xE1 ∷ 0x9E ∷ []; taken = 16; told = silence 5; reply = [] } ∷
     record {
       idLen = 2;
       bytes = 0xAA ∷ 0x55 ∷ 5 ∷ 0 ∷ 0 ∷ 0 ∷ 0 ∷ 0 ∷ 5 ∷ 0 ∷ 3 ∷ 0x11 ∷ 0x5A ∷ 1 ∷ 0 ∷ 0x43 ∷ 0x96 ∷ [];
       taken = 17;
-      told = mute 1;
+      told = silence 5;
       reply =
           [];
     } ∷
@@ -151,49 +152,4 @@ cases =
 
 all-held : held cases
 unfolding call-rules resetRefused resetOf
-all-held = (
-  (refl, refl, refl),
-  (
-    (refl, refl, refl),
-    (
-      (refl, refl, refl),
-      (
-        (refl, refl, refl),
-        (
-          (refl, refl, refl),
-          (
-            (refl, refl, refl),
-            (
-              (refl, refl, refl),
-              (
-                (refl, refl, refl),
-                (
-                  (refl, refl, refl),
-                  (
-                    (refl, refl, refl),
-                    (
-                      (refl, refl, refl),
-                      (
-                        (refl, refl, refl),
-                        (
-                          (refl, refl, refl),
-                          (
-                            (refl, refl, refl),
-                            (
-                              (refl, refl, refl),
-                              ((refl, refl, refl), ((refl, refl, refl), ((refl, refl, refl), ((refl, refl, refl), ((refl, refl, refl), tt))))),
-                            ),
-                          ),
-                        ),
-                      ),
-                    ),
-                  ),
-                ),
-              ),
-            ),
-          ),
-        ),
-      ),
-    ),
-  ),
-)
+all-held = ((refl, refl, refl), ((refl, refl, refl), ((refl, refl, refl), ((refl, refl, refl), ((refl, refl, refl), ((refl, refl, refl), ((refl, refl, refl), ((refl, refl, refl), ((refl, refl, refl), ((refl, refl, refl), ((refl, refl, refl), ((refl, refl, refl), ((refl, refl, refl), ((refl, refl, refl), ((refl, refl, refl), ((refl, refl, refl), ((refl, refl, refl), ((refl, refl, refl), ((refl, refl, refl), ((refl, refl, refl), ((refl, refl, refl), tt)))))))))))))))))))))

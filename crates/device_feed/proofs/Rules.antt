@@ -9,13 +9,14 @@ use Rattle.store_record.specs.State.{stateRead, appPresent}
 use Rattle.cmd_info.specs.Info.{appVersion, infoOf}
 use Rattle.device_state.specs.Refusals.{eraseSizeFits, capacityFits, fits, runFits, wellFormed, lengthsOf, refusalOf}
 use Rattle.device_handler.specs.Handling.{handledOf}
+use Rattle.device_turns.specs.Turns.{turnOf}
 use Rattle.device_replies.specs.Reply.{replyOf}
 use Rattle.device_dispatcher.specs.Dispatch.{answeredOf, obeyedOf, dispatchOf}
 use Rattle.device_feed.specs.Feed.{afterRead, takenOf, fedOf}
 
 -- a frame: its reading, Info, Select, and its reply
 unfoldable pub frame-rules : Type 0
-unfolding begun store hunt started verdictOf overhears checked dispatchOf obeyedOf handledOf answeredOf replyOf sendOf sealed infoOf appVersion stateRead
+unfolding begun store hunt started verdictOf overhears checked dispatchOf turnOf obeyedOf handledOf answeredOf replyOf sendOf sealed infoOf appVersion stateRead
     appPresent selectOf matches agree slotOf copied crcFrom bitsOf bits entered fold
 frame-rules = Unit {0}
 

@@ -3,4 +3,4 @@ use Rattle.device_replies.specs.declared.Said.{Said}
 use Rattle.device_replies.specs.Answers.{Told}
 
 abbrev pub toldBy : Said → Told
-toldBy s = record { number = s .number; len = s .len; wait = s .wait; mode = s .mode }
+toldBy s = record { number = s .number; len = s .len; wait = s .wait; mode = s .mode; why = s .why }

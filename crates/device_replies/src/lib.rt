@@ -1,6 +1,7 @@
 // The answers of a call, and the reply that two of them tell of. Translated from tinyboot, lib/core/src/protocol.rs (MIT OR Apache-2.0); changed: a reply
 // is written into a lent room, the wait and the restart are answers.
 
+use device_turns::Silence;
 use wire_frames::frame::FrameBytes;
 use wire_numbers::ResetFlags;
 use wire_numbers::RunMode;
@@ -13,11 +14,11 @@ ghost use Rattle.device_replies.specs.Answers.{mute, toldOf};
 ghost use Rattle.device_replies.specs.Inner.{toldBy};
 ghost use Rattle.device_replies.specs.Reply.{headed, spoken, replyOf};
 
-// What a call says: no frame has ended; one has, and there is no reply; there is one, to be sent after a wait of so many byte-times; there is one, and a
-// restart in this mode is due after it; or the call is refused, and nothing has changed.
+// What a call says: no frame has ended; one has, and there is no reply, for this reason; there is one, to be sent after a wait of so many byte-times; there
+// is one, and a restart in this mode is due after it; or the call is refused, and nothing has changed.
 pub enum Answer {
     Quiet,
-    Silent,
+    Silent { why: Silence },
     Reply { len: usize, wait: u8 },
     Restart { len: usize, mode: RunMode },
     BadSetup,
@@ -33,7 +34,8 @@ pub struct Said {
     pub number: u8,
     pub mode: u8,
     pub len: usize,
-    pub wait: usize,
+    pub wait: u8,
+    pub why: u8,
 }
 
 pub fn mode_number(mode: RunMode) -> u8
@@ -54,6 +56,7 @@ pub fn unsaid(number: u8) -> Said
         mode: 1,
         len: 0,
         wait: 0,
+        why: 0,
     }
 }
 
@@ -62,18 +65,26 @@ pub fn numbers_of(answer: Answer) -> Said
 {
     match answer {
         Answer::Quiet => unsaid(0),
-        Answer::Silent => unsaid(1),
+        Answer::Silent { why } => Said {
+            number: 1,
+            mode: 1,
+            len: 0,
+            wait: 0,
+            why: device_turns::why_number(why),
+        },
         Answer::Reply { len, wait } => Said {
             number: 2,
             mode: 1,
             len: len,
-            wait: wait as usize,
+            wait: wait,
+            why: 0,
         },
         Answer::Restart { len, mode } => Said {
             number: 3,
             mode: mode_number(mode),
             len: len,
             wait: 0,
+            why: 0,
         },
         Answer::BadSetup => unsaid(10),
         Answer::BadState => unsaid(11),

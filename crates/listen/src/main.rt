@@ -49,7 +49,7 @@ fn replied(at: u64, status: u8) {
 fn tell(at: u64, answer: Answer, status: u8) -> bool {
     match answer {
         Answer::Quiet => true,
-        Answer::Silent => {
+        Answer::Silent { why: _ } => {
             number(at);
             put(b" silent\n");
             true

@@ -15,7 +15,7 @@ use Rattle.wire_frames.specs.Reading.{kindStatus}
 use Rattle.wire_frames.specs.Stored.{ready}
 use Rattle.wire_sender.specs.Sent.{wire, Sent, sendOf, sealed, sent}
 use Rattle.wire_sender.proofs.Sealing.{sealed-length}
-use Rattle.cmd_select.specs.Select.{Choice, copied, selectOf}
+use Rattle.cmd_select.specs.Select.{copied}
 use Rattle.cmd_select.proofs.Selecting.{bytes-copied, select-length}
 use Rattle.cmd_erase.specs.Erase.{eraseOf}
 use Rattle.cmd_write.specs.Write.{writeOf}
@@ -30,9 +30,13 @@ use Rattle.cmd_reset.proofs.Resetting.{reset-length}
 use Rattle.device_state.specs.declared.Setup.{Setup}
 use Rattle.device_state.specs.State.{World, frameSet, metaSet, numbersSet, selectedSet, closedSet}
 use Rattle.device_handler.specs.Handling.{Obeyed, bare, loaded, afterInfo, afterErase, afterWrite, crcLaid, afterVerify, afterReset, handledOf}
+use Rattle.device_turns.specs.declared.Silence.{Silence}
+use Rattle.device_turns.specs.declared.Turn.{Turn}
+use Rattle.device_turns.specs.Turns.{Turned, turnOf}
+use Rattle.device_turns.proofs.Turning.{turn-bytes}
 use Rattle.device_replies.specs.Reply.{headed, replyOf}
 use Rattle.theorem_streams.proofs.Stored.{Synced, take-two}
-use Rattle.device_dispatcher.specs.Dispatch.{Ending, silent, answeredOf, good, overheard, obeyedOf, idOf, selecting, chosen, dispatchOf}
+use Rattle.device_dispatcher.specs.Dispatch.{Ending, silent, answeredOf, good, obeyedOf, idOf, turning, doneOf, afterTurn, dispatchOf}
 
 pub record Fit (s : Setup) (w : World) : Type 0 where
   pub whole : length (w .state .frame) ≡ 64
@@ -164,57 +168,48 @@ answered-fit s wait x room v =
 
 -- whatever holds of silence and of a reply, of a device as it should be, holds of a frame's end
 module _ (s : Setup) (kind : Kind) (w : World) (i : s .«id_len» ≤ 16) (v : Fit s w) (u : w .state .numbers .closed ≡ false) (P : (List ℕ → Ending) → Type 0)
-    (mute : (g : World) → Fit s g → g .state .numbers .closed ≡ false → P (silent g))
+    (mute : (why : Silence) (g : World) → Fit s g → g .state .numbers .closed ≡ false → P (silent why g))
     (speak : (wait : ℕ) (x : Obeyed) → Fit s (x .left) → P (answeredOf 52 wait x)) where
-  obeyed-fit : Fit s (obeyedOf 52 64 s kind w .left)
+  obeyed-fit : (g : World) → Fit s g → Fit s (obeyedOf 52 64 s kind g .left)
   unfolding obeyedOf
-  obeyed-fit = go (good kind)
+  obeyed-fit g k = go (good kind)
     where
-      go : (t : Bool) → Fit s (pick t (handledOf 52 64 s w) (bare (kindStatus kind) w) .left)
-      go true = handled-fit s w v
-      go false = v
+      go : (t : Bool) → Fit s (pick t (handledOf 52 64 s g) (bare (kindStatus kind) g) .left)
+      go true = handled-fit s g k
+      go false = k
 
-  abbrev id : List ℕ
-  id = idOf s
+  done-fit : (chosen : Bool) (g : World) → Fit s g → Fit s (doneOf 52 64 s kind chosen g .left)
+  done-fit true g k = k
+  done-fit false g k = obeyed-fit g k
 
-  chosen-all : (c : Choice) → length (c .bytes) ≡ 64 → Synced (c .bytes) → P (λ (room : List ℕ). chosen 52 (length id) w room c)
-  chosen-all c e k = go (c .match)
-    where
-      laid : Bool → World
-      laid on = selecting on (frameSet (c .bytes) w)
+  -- a turn leaves a frame of as many bytes, and its AA 55
+  abbrev Kept : List ℕ → Type 0
+  Kept f = (length f ≡ 64) × Synced f
 
-      fit : (on : Bool) → Fit s (laid on)
-      fit on = other-fit s w (c .bytes) on (w .state .numbers .closed) v e k
-
-      go : (t : Bool) → P (λ (room : List ℕ). pick t (answeredOf 52 (c .wait) (loaded (length id) (laid true)) room) (silent (laid false) room))
-      go true = speak (c .wait) (loaded (length id) (laid true)) (fit true)
-      go false = mute (laid false) (fit false) u
-
-  select-sync : Synced (selectOf id (w .state .frame) .bytes)
-  select-sync = rw bytes-copied (sync-on (w .state .frame) (v .synced) (copied id) (copied-sync id))
+  turned-kept : Kept (turnOf (s .id) (s .«id_len») kind (w .state .frame) (w .state .numbers .selected) .bytes)
+  turned-kept =
+      turn-bytes (s .id) (s .«id_len») (w .state .frame) (w .state .numbers .selected) Kept (v .whole, v .synced) (
+        rw (sym (bytes-copied (idOf s) (w .state .frame))) (select-length (idOf s) (w .state .frame) (omega (arith, length-take (s .«id_len») (s .id))) (v .whole)),
+        sync-on (w .state .frame) (v .synced) (copied (idOf s)) (copied-sync (idOf s)),
+      )
+      kind
 
   pub dispatch-all : P (dispatchOf 52 64 s kind w)
   unfolding dispatchOf
-  dispatch-all = go (eqb (s .«id_len») 0) (overheard kind) (not (good kind)) (eqb (cmdOf (w .state .frame)) 5) (w .state .numbers .selected)
+  dispatch-all = go (t .turn)
     where
-      go : (a b c d e : Bool) →
-          P (λ (room : List ℕ).
-          pick a (pick b (silent w room) (answeredOf 52 0 (obeyedOf 52 64 s kind w) room))
-          (pick c (silent w room)
-          (pick d (chosen 52 (length id) w room (selectOf id (w .state .frame)))
-          (pick e (answeredOf 52 0 (handledOf 52 64 s w) room) (silent w room)))))
-      go true true c d e = mute w v u
-      go true false c d e = speak 0 (obeyedOf 52 64 s kind w) obeyed-fit
-      go false b true d e = mute w v u
-      go false b false true e =
-          chosen-all (selectOf id (w .state .frame))
-          (select-length id (w .state .frame) (omega (arith, length-take (s .«id_len») (s .id))) (v .whole))
-          select-sync
-      go false b false false true = speak 0 (handledOf 52 64 s w) (handled-fit s w v)
-      go false b false false false = mute w v u
+      t : Turned
+      t = turnOf (s .id) (s .«id_len») kind (w .state .frame) (w .state .numbers .selected)
+
+      fit : (on : Bool) → Fit s (turning on (t .bytes) w)
+      fit on = other-fit s w (t .bytes) on (w .state .numbers .closed) v (turned-kept .0) (turned-kept .1)
+
+      go : (x : Turn) → P (λ (room : List ℕ). afterTurn 52 64 s kind w room (t .bytes) x)
+      go (Turn.Silent why on) = mute why (turning on (t .bytes) w) (fit on) u
+      go (Turn.Reply chosen on wait) = speak wait (doneOf 52 64 s kind chosen (turning on (t .bytes) w)) (done-fit chosen (turning on (t .bytes) w) (fit on))
 
 pub dispatch-fit : (s : Setup) (kind : Kind) (w : World) → s .«id_len» ≤ 16 → Fit s w → w .state .numbers .closed ≡ false → (room : List ℕ) →
     Fit s (dispatchOf 52 64 s kind w room .left)
 dispatch-fit s kind w i v u =
-    dispatch-all s kind w i v u (λ (e : List ℕ → Ending). (room : List ℕ) → Fit s (e room .left)) (λ g k c room. k)
+    dispatch-all s kind w i v u (λ (e : List ℕ → Ending). (room : List ℕ) → Fit s (e room .left)) (λ why g k c room. k)
     (λ wait x k room. answered-fit s wait x room k)

@@ -98,10 +98,10 @@ module _ (s : Setup) (kind : Kind) (w : World) (i : s .«id_len» ≤ 16) (v : F
   same-room =
       dispatch-all s kind w i v u
       (λ (e : List ℕ → Ending). (room other : List ℕ) → 64 ≤ length room → 64 ≤ length other → Same (e room) (e other))
-      (λ g k c room other r o. record { event = refl; left = refl })
+      (λ why g k c room other r o. record { event = refl; left = refl })
       (answered-same s)
 
   pub dispatch-number : (room : List ℕ) → Numbered s (dispatchOf 52 64 s kind w room)
   dispatch-number =
       dispatch-all s kind w i v u (λ (e : List ℕ → Ending). (room : List ℕ) → Numbered s (e room))
-      (λ g k c room. record { loud = refl; closes = c; few = omega arith }) (answered-number s)
+      (λ why g k c room. record { loud = refl; closes = c; few = omega arith }) (answered-number s)

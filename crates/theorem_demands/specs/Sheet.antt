@@ -12,13 +12,14 @@ use Rattle.device_state.specs.State.{numbered}
 use Rattle.device_start.specs.Starts.{newState}
 use Rattle.theorem_demands.specs.Stream.{Event, Story, storyOf}
 
--- an answer: its number, of its reply the status, the payload and the wait, which silence has not, and the mode
+-- an answer: its number, of its reply the status, the payload and the wait, which silence has not, the mode, and the reason, which silence alone has
 pub record Shown : Type 0 where
   pub number : ℕ
   pub status : ℕ
   pub payload : List ℕ
   pub wait : ℕ
   pub mode : ℕ
+  pub why : ℕ
 
 abbrev pub shown : Event → Shown
 shown e =
@@ -28,17 +29,19 @@ shown e =
       payload = take (e .told .len - 12) (drop 10 (e .reply));
       wait = e .told .wait;
       mode = e .told .mode;
+      why = e .told .why;
     }
 
 abbrev pub allShown : List Event → List Shown
 allShown [] = []
 allShown (e ∷ l) = shown e ∷ allShown l
 
-abbrev pub silence : Shown
-silence = record { number = 1; status = 0; payload = []; wait = 0; mode = 1 }
+-- silence, by its reason: 1 overheard reply, 2 unreadable frame, 3 wrong CRC, 4 not selected, 5 Select without a match
+abbrev pub silence : ℕ → Shown
+silence why = record { number = 1; status = 0; payload = []; wait = 0; mode = 1; why = why }
 
 abbrev pub replies : ℕ → List ℕ → ℕ → Shown
-replies status payload wait = record { number = 2; status = status; payload = payload; wait = wait; mode = 1 }
+replies status payload wait = record { number = 2; status = status; payload = payload; wait = wait; mode = 1; why = 0 }
 
 abbrev pub refusedWith : ℕ → Shown
 refusedWith status = replies status [] 0
@@ -47,7 +50,7 @@ abbrev pub ok : Shown
 ok = refusedWith 1
 
 abbrev pub restarts : ℕ → Shown
-restarts mode = record { number = 3; status = 1; payload = []; wait = 0; mode = mode }
+restarts mode = record { number = 3; status = 1; payload = []; wait = 0; mode = mode; why = 0 }
 
 -- a frame on the wire: command, status, address, flags, data, and its CRC (01, Frame bytes)
 abbrev pub frame : ℕ → ℕ → ℕ → ℕ → List ℕ → List ℕ
@@ -206,7 +209,7 @@ idReply wait = replies 1 (0x5A ∷ 1 ∷ []) wait
 -- row 1: a length of 52 is read, 53 is too long, and 53 in another's reply is silence
 abbrev pub row1 : Row
 row1 =
-    kept image 0xFF (info (replicate {A = ℕ} 52 0) ++ (header 2 0 53 ++ header 2 1 53)) (infoReply ∷ refusedWith 6 ∷ silence ∷ []) resting
+    kept image 0xFF (info (replicate {A = ℕ} 52 0) ++ (header 2 0 53 ++ header 2 1 53)) (infoReply ∷ refusedWith 6 ∷ silence 1 ∷ []) resting
 
 -- row 2: an AA before AA 55
 abbrev pub row2 : Row
@@ -220,7 +223,7 @@ row3 = kept image 0xFF (header 6 1 0 ++ (header 0 8 0 ++ damaged)) (refusedWith 
 abbrev pub row3-addressed : Row
 row3-addressed =
     named (header 6 1 0 ++ (select 3 9 (0x5A ∷ 0xFF ∷ []) ++ (header 6 1 0 ++ (header 2 0 53 ++ damaged))))
-    (silence ∷ idReply 11 ∷ silence ∷ silence ∷ silence ∷ [])
+    (silence 2 ∷ idReply 11 ∷ silence 2 ∷ silence 2 ∷ silence 3 ∷ [])
     selected
 
 -- row 4: with no run open a Write at 32 is refused, at 64 taken
@@ -270,7 +273,7 @@ row10 =
     (info [] ++
     (select 3 9 (0x5A ∷ 0xFF ∷ []) ++
     (info [] ++ (select 3 9 (0x5A ∷ 0 ∷ []) ++ (info [] ++ (select 0 17 (0x5A ∷ 1 ∷ 0 ∷ []) ++ select 0xF8 0 []))))))
-    (silence ∷ idReply 11 ∷ infoReply ∷ silence ∷ silence ∷ silence ∷ idReply 12 ∷ [])
+    (silence 4 ∷ idReply 11 ∷ infoReply ∷ silence 5 ∷ silence 4 ∷ silence 5 ∷ idReply 12 ∷ [])
     selected
 
 -- row 11: a cell of 0F written 3C is 0C; flags bit 7 ends the run
@@ -317,7 +320,21 @@ reset-taken =
     plain image (inState 0x7F) (reset 0x030207 3 ++ info [])
     (came (restarts 1 ∷ []) image (0x7F ∷ 0x0F ∷ 0x34 ∷ 0x12 ∷ 128 ∷ 0 ∷ 0 ∷ 0 ∷ 7 ∷ 1 ∷ 2 ∷ 3 ∷ []) shut)
 
+-- where two reasons apply, the frame's is told and not the selection's, and of the frame's the one that is read first: of a device that is not selected, a
+-- command of 6 in another's reply, a length of 53 in one, a reply with a wrong CRC, a good one, an Info and a Select with a wrong CRC, an Info, a Select for
+-- another
+abbrev pub why-silent : Row
+why-silent =
+    named
+    (header 6 1 0 ++
+    (header 2 1 53 ++
+    (header 0 1 0 ++
+    (0 ∷
+    0 ∷ (frame 0 1 0 0 [] ++ (damaged ++ (header 5 0 0 ++ (0 ∷ 0 ∷ (info [] ++ select 3 9 (0x5A ∷ 0 ∷ []))))))))))
+    (silence 2 ∷ silence 1 ∷ silence 1 ∷ silence 1 ∷ silence 3 ∷ silence 3 ∷ silence 4 ∷ silence 5 ∷ [])
+    resting
+
 abbrev pub sheet : List Row
 sheet =
     row1 ∷ row2 ∷ row3 ∷ row3-addressed ∷ row4 ∷ row5 ∷ row6 ∷ row7 ∷ row8 ∷
-    (row9 ++ (row10 ∷ row11 ∷ row12-refused ∷ row12 ∷ row13 ∷ erase-validating ∷ erase-in-a-run ∷ short-erase ∷ short-select ∷ reset-taken ∷ []))
+    (row9 ++ (row10 ∷ row11 ∷ row12-refused ∷ row12 ∷ row13 ∷ erase-validating ∷ erase-in-a-run ∷ short-erase ∷ short-select ∷ reset-taken ∷ why-silent ∷ []))

@@ -13,6 +13,8 @@ use Rattle.store_record.specs.declared.traits.BootState.{BootState}
 use Rattle.store_record.specs.State.{stateByte}
 use Rattle.device_state.specs.declared.refusal.Refusal.{Refusal}
 use Rattle.device_state.specs.Refusals.{refusalNumber}
+use Rattle.device_turns.specs.declared.Silence.{Silence}
+use Rattle.device_turns.specs.Turns.{whyNumber}
 use Rattle.device_replies.specs.declared.Answer.{Answer}
 use Rattle.device_replies.specs.Answers.{Told, toldOf}
 
@@ -38,10 +40,22 @@ refusal-back Refusal.Closed = refl
 pub refusal-apart : (a b : Refusal) → refusalNumber a ≡ refusalNumber b → a ≡ b
 refusal-apart = apart refusalNumber refusalFrom refusal-back
 
+abbrev whyFrom : ℕ → Silence
+whyFrom n =
+    pick (eqb n 1) Silence.OverheardReply
+    (pick (eqb n 2) Silence.UnreadableFrame (pick (eqb n 3) Silence.WrongCrc (pick (eqb n 4) Silence.NotSelected Silence.SelectWithoutMatch)))
+
+why-back : (w : Silence) → whyFrom (whyNumber w) ≡ w
+why-back Silence.OverheardReply = refl
+why-back Silence.UnreadableFrame = refl
+why-back Silence.WrongCrc = refl
+why-back Silence.NotSelected = refl
+why-back Silence.SelectWithoutMatch = refl
+
 abbrev answerFrom : Told → Answer
 answerFrom t =
     pick (eqb (t .number) 0) Answer.Quiet
-    (pick (eqb (t .number) 1) Answer.Silent
+    (pick (eqb (t .number) 1) (Answer.Silent (whyFrom (t .why)))
     (pick (eqb (t .number) 2) (Answer.Reply (t .len) (t .wait))
     (pick (eqb (t .number) 3) (Answer.Restart (t .len) (modeFrom (t .mode)))
     (pick (eqb (t .number) 10) Answer.BadSetup
@@ -51,7 +65,7 @@ answerFrom t =
 
 answer-back : (a : Answer) → answerFrom (toldOf a) ≡ a
 answer-back Answer.Quiet = refl
-answer-back Answer.Silent = refl
+answer-back (Answer.Silent why) = ap Answer.Silent (why-back why)
 answer-back (Answer.Reply len wait) = refl
 answer-back (Answer.Restart len mode) = ap (Answer.Restart len) (mode-back mode)
 answer-back Answer.BadSetup = refl

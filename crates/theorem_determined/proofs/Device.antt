@@ -7,6 +7,7 @@ use Rattle.device_state.proofs as device_state
 use Rattle.device_boot.proofs as device_boot
 use Rattle.device_start.proofs as device_start
 use Rattle.device_handler.proofs as device_handler
+use Rattle.device_turns.proofs as device_turns
 use Rattle.device_replies.proofs as device_replies
 use Rattle.device_dispatcher.proofs as device_dispatcher
 use Rattle.device_feed.proofs as device_feed
@@ -76,18 +77,24 @@ handle κs a o o' p q i =
       (tt, (e i .left .state .frame, (e i .left .state .page, (tt, (e i .left .flash, (e i .left .meta, tt)))))),
     )
 
+pub why-number : Determined device_turns.why_number.ended device_turns.why_number.Reads.Post
+why-number κs a o o' p q i = (plain p q i, o .1)
+
+pub decide : Determined device_turns.decide.ended device_turns.decide.Reads.Post
+decide κs a o o' p q i = let e = plain p q in (e i .turn, (tt, (tt, (tt, (e i .bytes, (tt, tt))))))
+
 pub mode-number : Determined device_replies.mode_number.ended device_replies.mode_number.Reads.Post
 mode-number κs a o o' p q i = (plain p q i, o .1)
 
 pub unsaid : Determined device_replies.unsaid.ended device_replies.unsaid.Reads.Post
 unsaid κs a o o' p q i =
     let e = plain p q in
-    (record { number = e i .number; mode = e i .mode; len = e i .len; wait = e i .wait }, o .1)
+    (record { number = e i .number; mode = e i .mode; len = e i .len; wait = e i .wait; why = e i .why }, o .1)
 
 pub numbers-of : Determined device_replies.numbers_of.ended device_replies.numbers_of.Reads.Post
 numbers-of κs a o o' p q i =
     let e = plain p q in
-    (record { number = e i .number; mode = e i .mode; len = e i .len; wait = e i .wait }, o .1)
+    (record { number = e i .number; mode = e i .mode; len = e i .len; wait = e i .wait; why = e i .why }, o .1)
 
 pub reply : Determined device_replies.reply.ended device_replies.reply.Reads.Post
 reply κs a o o' p q i =
