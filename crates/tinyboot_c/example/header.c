@@ -6,8 +6,9 @@
 /* erase size 0x180, capacity 0xC000, an id of three bytes, version 1.2.3, key 0xA1B2C3D4 */
 static const uint8_t laid[TINYBOOT_SETUP_SIZE] = {0x80, 0x01, 0,    0,    0x00, 0xC0, 0, 0, 3, 0x5A, 0x01, 0xC3, 0, 0, 0,   0,
                                                   0,    0,    0,    0,    0,    0,    0, 0, 0, 0x83, 0x08, 0xD4, 0xC3, 0xB2, 0xA1};
-/* a reply of 14 bytes after 11 byte-times; 0x10203 bytes were taken */
+/* a reply of 14 bytes after 11 byte-times, 0x10203 bytes taken; silence for a Select without a match, 16 bytes taken */
 static const uint8_t answer[TINYBOOT_ANSWER_SIZE] = {2, 1, 14, 0, 11, 0, 0, 0, 0x03, 0x02, 0x01, 0, 0, 0, 0, 0};
+static const uint8_t silent[TINYBOOT_ANSWER_SIZE] = {1, 1, 0, 0, 0, 5, 0, 0, 16, 0, 0, 0, 0, 0, 0, 0};
 
 int main(void)
 {
@@ -46,5 +47,10 @@ int main(void)
     tinyboot_put(meta + TINYBOOT_META_AT_IMAGE_SIZE, 4, 70);
     if (memcmp(meta, "\x3F\xFF\xA0\x4D\x46\x00\x00\x00\xFF\xFF\xFF\xFF", sizeof meta) != 0) return 9;
     if (tinyboot_get(meta + TINYBOOT_META_AT_IMAGE_SIZE, 4) != 70) return 10;
+
+    if (tinyboot_answer_reason(answer) != TINYBOOT_NO_REASON) return 11;
+    if (tinyboot_answer_number(silent) != TINYBOOT_SILENT) return 12;
+    if (tinyboot_answer_reason(silent) != TINYBOOT_SELECT_WITHOUT_MATCH) return 13;
+    if (tinyboot_answer_wait(silent) != 0) return 14;
     return 0;
 }

@@ -36,7 +36,8 @@ struct Answer {
     number: u8,
     mode: u8,
     len: usize,
-    wait: u32,
+    wait: u8,
+    reason: u8,
     taken: usize,
 }
 
@@ -46,13 +47,18 @@ impl Answer {
             number: b[0],
             mode: b[1],
             len: u16::from_le_bytes([b[2], b[3]]) as usize,
-            wait: u32::from_le_bytes([b[4], b[5], b[6], b[7]]),
+            wait: b[4],
+            reason: b[5],
             taken: u64::from_le_bytes(b[8..16].try_into().unwrap()) as usize,
         }
     }
 
     fn mode(&self) -> &'static str {
         ["handoff", "service"][self.mode as usize]
+    }
+
+    fn reason(&self) -> &'static str {
+        ["", "overheard reply", "unreadable frame", "wrong CRC", "not selected", "Select without a match"][self.reason as usize]
     }
 }
 
@@ -142,7 +148,7 @@ fn stream(device: &mut Device, bytes: &[u8], piece: usize) {
         read += answer.taken;
         match answer.number {
             QUIET => {}
-            SILENT => println!("silent {read}"),
+            SILENT => println!("silent {read} {}", answer.reason()),
             REPLY | RESTART => println!("reply {read} {} {}", answer.wait, hex(&device.reply[..answer.len])),
             refused => panic!("refused: {refused}"),
         }

@@ -54,7 +54,7 @@ extern "C" {
 #endif
 
 /* The version of this interface. While the major one is 0, a change of a layout or a number raises the minor one. */
-#define TINYBOOT_VERSION 0x00000001
+#define TINYBOOT_VERSION 0x00000002
 #define TINYBOOT_VERSION_MAJOR (0xffff & (TINYBOOT_VERSION >> 16))
 #define TINYBOOT_VERSION_MINOR (0xffff & (TINYBOOT_VERSION >> 0))
 
@@ -86,7 +86,7 @@ extern "C" {
 enum tinyboot_number {
     TINYBOOT_STARTED = 0,     /* a start: its mode is what was decided */
     TINYBOOT_QUIET = 0,       /* a feed: all bytes are taken, and no frame has ended */
-    TINYBOOT_SILENT = 1,      /* a frame has ended, and there is no reply */
+    TINYBOOT_SILENT = 1,      /* a frame has ended, and there is no reply: the answer has the reason */
     TINYBOOT_REPLY = 2,       /* a frame has ended: send the reply */
     TINYBOOT_RESTART = 3,     /* send the reply, then call tinyboot_start with the answer's mode */
     TINYBOOT_REFUSED = 10,    /* this and all above are refusals */
@@ -96,6 +96,17 @@ enum tinyboot_number {
     TINYBOOT_BAD_RECORD = 13, /* not 12 bytes */
     TINYBOOT_NO_ROOM = 14,    /* too little for a reply, or for an answer */
     TINYBOOT_CLOSED = 15      /* a restart is due, or the app has been handed to: call tinyboot_start */
+};
+
+/* Why a module keeps silent: the reason of TINYBOOT_SILENT. Where two apply it is the frame's own before the selection's, and of the frame's the one that is read
+ * first. A module without an id has TINYBOOT_OVERHEARD_REPLY alone. */
+enum tinyboot_reason {
+    TINYBOOT_NO_REASON = 0,            /* every other answer's */
+    TINYBOOT_OVERHEARD_REPLY = 1,      /* a neighbour's reply */
+    TINYBOOT_UNREADABLE_FRAME = 2,     /* a command or a status that is none, or more data than a frame takes */
+    TINYBOOT_WRONG_CRC = 3,            /* a damaged request */
+    TINYBOOT_NOT_SELECTED = 4,         /* a good request, for whoever is selected */
+    TINYBOOT_SELECT_WITHOUT_MATCH = 5  /* a good Select, for another */
 };
 
 /* What a start asks for, and what one has decided. Of a feed's answers TINYBOOT_RESTART alone can have TINYBOOT_HANDOFF: all others, TINYBOOT_QUIET too, have
@@ -188,11 +199,13 @@ static inline void tinyboot_lay_setup(uint8_t *setup, const struct tinyboot_setu
     tinyboot_put(setup + 27, 4, numbers->key);
 }
 
-/* What an answer says, TINYBOOT_ANSWER_SIZE bytes: 0 number, 1 mode, 2 the reply's length (2), 4 the wait (4), 8 how many bytes were taken (8). */
+/* What an answer says, TINYBOOT_ANSWER_SIZE bytes: 0 number, 1 mode, 2 the reply's length (2), 4 the wait, 5 the reason of silence, 6 and 7 are 0, 8 how many bytes
+ * were taken (8). */
 static inline uint8_t tinyboot_answer_number(const uint8_t *answer) { return answer[0]; }
 static inline uint8_t tinyboot_answer_mode(const uint8_t *answer) { return answer[1]; }
 static inline size_t tinyboot_answer_length(const uint8_t *answer) { return tinyboot_get(answer + 2, 2); }
-static inline uint32_t tinyboot_answer_wait(const uint8_t *answer) { return tinyboot_get(answer + 4, 4); }
+static inline uint8_t tinyboot_answer_wait(const uint8_t *answer) { return answer[4]; }
+static inline uint8_t tinyboot_answer_reason(const uint8_t *answer) { return answer[5]; }
 static inline size_t tinyboot_answer_taken(const uint8_t *answer)
 {
     return (size_t)((uint64_t)tinyboot_get(answer + 12, 4) << 32 | tinyboot_get(answer + 8, 4));
