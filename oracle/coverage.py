@@ -1,5 +1,5 @@
-"""What a script reaches, counted on the device of model.py: answers, replies, both sides of every limit, states of the record, refusals, lines. A limit's side is
-counted where that limit alone decides. `wanted` has every point that the stored run of `bench` must reach (make-replay)."""
+"""What a script reaches, counted on the device of model.py: answers, replies, reasons for silence, both sides of every limit, states of the record, refusals,
+lines. A limit's side is counted where that limit alone decides. `wanted` has every point that the stored run of `bench` must reach (make-replay)."""
 from collections import Counter
 
 import model
@@ -185,7 +185,32 @@ class Counted(model.Device):
             self.note("select", f"{COMMANDS[self.command]} {'selected' if self.state.selected else 'not selected'}")
         if self.setup.addressed and ended > 1:
             self.note("select", f"an error is silence {'selected' if self.state.selected else 'not selected'}")
-        return super().answer(ended)
+        whom, found, frame = "addressed" if self.setup.addressed else "unaddressed", self.silences(), bytes(self.state.frame[:DATA])
+        result = super().answer(ended)
+        why = result[4]
+        if why:
+            self.note("silent", model.WHY_NAMES[why])
+            others = [str(one) for one in found if one != why]
+            self.note("silence", f"{whom}: {why} {'before ' + ' and '.join(others) if others else 'alone'}")
+            if why == model.UNREADABLE_FRAME:
+                self.note("silence", f"{whom}: 2 by its {'command' if frame[COMMAND] > 5 else 'status' if frame[STATUS] > 7 else 'length'}")
+        return result
+
+    def silences(self):
+        """The reasons for silence that apply to the frame that has ended, each looked at by itself. A Select's is of what stands in the data area."""
+        frame, bits = self.state.frame, 8 * self.setup.id_length
+        command, status, length = frame[COMMAND], frame[STATUS], low_first(frame[LENGTH:DATA])
+        found = [model.OVERHEARD_REPLY] if status != model.REQUEST else []
+        if command > 5 or status > 7 or length > 52:
+            found.append(model.UNREADABLE_FRAME)
+        elif low_first(frame[RECEIVED_CRC:]) != model.crc(frame[:DATA + length]):
+            found.append(model.WRONG_CRC)
+        if self.setup.addressed and command != SELECT and not self.state.selected:
+            found.append(model.NOT_SELECTED)
+        count, prefix = frame[DATA + 1], bytes(frame[DATA + 2:DATA + 18])
+        if self.setup.addressed and command == SELECT and (count > bits or any(model.bit(prefix, k) != model.bit(self.setup.id, k) for k in range(count))):
+            found.append(model.SELECT_WITHOUT_MATCH)
+        return found
 
     def reply(self, status=model.OK, payload=b"", wait=0, number=model.REPLY, mode=model.SERVICE):
         name = COMMANDS[self.command] if self.command <= 5 else "no command"
@@ -450,6 +475,9 @@ def wanted():
         + [f"{what} {how}" for what in (*COMMANDS[:5], "an error is silence") for how in ("selected", "not selected")],
         "bit just below the count wrong": range(128),
         "bit just past the count wrong": range(128),
+        "silent": model.WHY_NAMES[1:],
+        "silence": [f"addressed: {what}" for what in SILENCES] + [f"addressed: 2 by its {what}" for what in ("command", "status", "length")]
+        + [f"unaddressed: {what}" for what in ("1 alone", "1 before 2", "1 before 3")],
         "start": ["10", "12", "13", *MODES, "over a frame begun", "over a run", "over a selection", "size capacity", "size 0"],
         "start record": [f"{mode} asked, state {state}" for mode in MODES for state in STATE_NAMES]
         + [f"state {state}, {check}" for state in STATE_NAMES if state != "7F" for check in CHECKS] + [f"{mode} asked, Validating, trials {n}" for mode in MODES for n in ("FF", "B0", "01", "00")]
@@ -473,11 +501,23 @@ def wanted():
     return {group: [str(point) for point in found] for group, found in points.items()}
 
 
+# The reasons for silence that can apply at once, the one that is told first; both ways where the header's command or status decides before its length. Never at
+# once are 2 and 3, for a frame that is unreadable ends before its CRC, and 4 and 5, of which one is a Select's and the other every other command's.
+# Unaddressed, 2 and 3 are replied to, and there are no 4 and 5.
+SILENCES = ("1 alone", "2 alone", "3 alone", "4 alone", "5 alone",
+            "1 before 2", "2 before 1", "1 before 3", "1 before 4", "1 before 5", "2 before 4", "2 before 5", "3 before 4", "3 before 5",
+            "1 before 2 and 4", "2 before 1 and 4", "1 before 2 and 5", "2 before 1 and 5", "1 before 3 and 4", "1 before 3 and 5")
+
 CHECKS = ("no checksum, an app", "no checksum, no app", "checksum right", "checksum wrong", "size above capacity")
 
 
 def missing(seen):
     return [f"{group}: {point}" for group, points in wanted().items() for point in points if not seen[group, point]]
+
+
+def impossible(seen):
+    """Reasons for silence that were seen at once, or in an order, as they cannot be."""
+    return [point for group, point in seen if group == "silence" and point not in wanted()["silence"]]
 
 
 def text(seen):

@@ -12,7 +12,8 @@ use tinyboot_core::addressing::{Addressable, Addressing, Unaddressed};
 use tinyboot_core::protocol::Dispatcher;
 use tinyboot_core::traits::{BootCtl, RunMode, Storage, Transport};
 use tinyboot_core::{Core, Platform};
-use tinyboot_protocol::DEFAULT_PAYLOAD;
+use tinyboot_protocol::frame::Frame;
+use tinyboot_protocol::{Cmd, DEFAULT_PAYLOAD, Status};
 
 use crate::out;
 use crate::scenario::{Setup, Stream};
@@ -121,12 +122,15 @@ fn run<S: Storage + Default, I: Address>(
     let ended = catch_unwind(AssertUnwindSafe(|| {
         loop {
             dispatcher.platform.transport.replied = false;
+            let from = dispatcher.platform.transport.at;
+            let selected = dispatcher.addressing.selected();
             if dispatcher.dispatch().is_err() {
                 return;
             }
             let wire = &dispatcher.platform.transport;
             if !wire.replied {
-                out!("silent {}", wire.at);
+                let why = why_silent(&stream.bytes[from..wire.at], selected);
+                out!("silent {} {why}", wire.at);
             }
         }
     }));
@@ -142,6 +146,43 @@ fn run<S: Storage + Default, I: Address>(
     };
     dispatcher.platform.transport.say_rest(reset);
     Ok(reset)
+}
+
+/// Why a frame was left without a reply, in the words of `bench`: what the
+/// Rust's own reader says of the bytes that `dispatch` took, and, of a good
+/// frame, whether it is a Select and whether the device was selected.
+fn why_silent(bytes: &[u8], selected: bool) -> &'static str {
+    let mut frame = Frame::<DEFAULT_PAYLOAD>::default();
+    let mut rest = Rest(bytes);
+    let read = frame.read_request(&mut rest);
+    assert!(rest.0.is_empty(), "a frame is read otherwise the second time");
+    match read {
+        Ok(Status::Request) => "overheard reply",
+        Ok(Status::Unsupported | Status::PayloadOverflow) => "unreadable frame",
+        Ok(Status::CrcMismatch) => "wrong CRC",
+        Ok(Status::Ok) if frame.cmd == Cmd::Select => "Select without a match",
+        Ok(Status::Ok) if !selected => "not selected",
+        _ => "no reason",
+    }
+}
+
+/// Bytes read once more.
+struct Rest<'a>(&'a [u8]);
+
+impl embedded_io::ErrorType for Rest<'_> {
+    type Error = Ended;
+}
+
+impl embedded_io::Read for Rest<'_> {
+    fn read(&mut self, buf: &mut [u8]) -> Result<usize, Ended> {
+        if self.0.is_empty() {
+            return Err(Ended);
+        }
+        let n = self.0.len().min(buf.len());
+        buf[..n].copy_from_slice(&self.0[..n]);
+        self.0 = &self.0[n..];
+        Ok(n)
+    }
 }
 
 fn stopped(ended: Result<std::convert::Infallible, Box<dyn Any + Send>>) -> Result<Stop, Left> {
