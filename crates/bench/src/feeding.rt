@@ -2,6 +2,7 @@
 use crate::module;
 use crate::module::Bench;
 use crate::show;
+use crate::silence;
 use crate::starting;
 use device_feed::Passed;
 use device_feed::feed_in;
@@ -28,13 +29,19 @@ fn replied(out: &mut [u8], at: usize, reply: &[u8]) -> usize {
     show::byte(out, at, b'\n')
 }
 
-fn tell(out: &mut [u8], at: usize, said: Said, taken: usize, room: &[u8]) -> usize {
+// Which answer it is, the bytes taken, the reply's length, and the wait.
+fn counted(out: &mut [u8], at: usize, said: Said, taken: usize) -> usize {
     let at = show::decimal(out, at, said.number as u64);
     let at = show::next_decimal(out, at, taken as u64);
     let at = show::next_decimal(out, at, said.len as u64);
-    let at = show::next_decimal(out, at, said.wait as u64);
+    show::next_decimal(out, at, said.wait as u64)
+}
+
+fn tell(out: &mut [u8], at: usize, said: Said, taken: usize, room: &[u8]) -> usize {
+    let at = counted(out, at, said, taken);
     let at = show::byte(out, at, b' ');
     let at = starting::mode(out, at, starting::mode_of(said.mode));
+    let at = silence::reason(out, at, said.why);
     replied(out, at, first(room, said.len))
 }
 

@@ -9,6 +9,7 @@ mod module;
 mod numbers;
 mod script;
 mod show;
+mod silence;
 mod starting;
 mod words;
 

@@ -1,9 +1,10 @@
-// Feeds an unaddressed device what stands on standard input, and prints what each frame was answered: where it ends, and the reply's status or `silent`; at
-// the end, how many bytes of a frame have begun. A restart ends it.
+// Feeds an unaddressed device what stands on standard input, and prints what each frame was answered: where it ends, and the reply's status or `silent` and why;
+// at the end, how many bytes of a frame have begun. A restart ends it.
 use device_feed::feed;
 use device_replies::Answer;
 use device_state::Setup;
 use device_state::State;
+use device_turns::Silence;
 use libc::STDIN_FILENO;
 use libc::STDOUT_FILENO;
 use store_flash::storage::PAGE_SIZE;
@@ -45,13 +46,30 @@ fn replied(at: u64, status: u8) {
     put(b"\n");
 }
 
+fn reason(why: Silence) {
+    match why {
+        Silence::OverheardReply => put(b"overheard reply"),
+        Silence::UnreadableFrame => put(b"unreadable frame"),
+        Silence::WrongCrc => put(b"wrong CRC"),
+        Silence::NotSelected => put(b"not selected"),
+        Silence::SelectWithoutMatch => put(b"Select without a match"),
+    }
+}
+
+// A frame that was not.
+fn ignored(at: u64, why: Silence) {
+    number(at);
+    put(b" silent ");
+    reason(why);
+    put(b"\n");
+}
+
 // A frame that has ended gets a line; whether the device listens on.
 fn tell(at: u64, answer: Answer, status: u8) -> bool {
     match answer {
         Answer::Quiet => true,
-        Answer::Silent { why: _ } => {
-            number(at);
-            put(b" silent\n");
+        Answer::Silent { why } => {
+            ignored(at, why);
             true
         }
         Answer::Reply { len: _, wait: _ } => {
