@@ -9,7 +9,10 @@ use lib.ListN.{length, set, length-set}
 use lib.Seq.{length-sets, set-getD}
 use Rattle.laws.specs.Low.{lowFirst, lowBytes}
 use Rattle.laws.proofs.Low.{low-read}
-use Rattle.store_record.specs.Record.{stateOf, trialsOf, checksumOf, sizeOf, baudOf, positionOf, reservedOf, refreshed, rowSet, half, advanced, trialUsed}
+use Rattle.store_record.specs.Record.{stateOf, trialsOf, checksumOf, sizeOf, baudOf, positionOf, reservedOf, half, advanced, trialUsed}
+use Rattle.store_record.specs.Record.{freshOf, rowOf, refreshed, rowSet}
+use Rattle.store_record.proofs.Whole.{Whole, cells, whole}
+use Rattle.store_record.proofs.Cuts.{cut-length}
 
 -- all that a record says, by name
 pub record Fields : Type 0 where
@@ -32,26 +35,6 @@ fieldsOf m =
       position = positionOf m;
       reserved = reservedOf m;
     }
-
--- a record of 12 bytes, written out
-data Whole : List ℕ → Type 0 where
-  cells : (a b c d e f g h i j k l : ℕ) → Whole (a ∷ b ∷ c ∷ d ∷ e ∷ f ∷ g ∷ h ∷ i ∷ j ∷ k ∷ l ∷ [])
-
-whole : (m : List ℕ) → length m ≡ 12 → Whole m
-whole [] n = absurd (omega arith)
-whole (a ∷ []) n = absurd (omega arith)
-whole (a ∷ b ∷ []) n = absurd (omega arith)
-whole (a ∷ b ∷ c ∷ []) n = absurd (omega arith)
-whole (a ∷ b ∷ c ∷ d ∷ []) n = absurd (omega arith)
-whole (a ∷ b ∷ c ∷ d ∷ e ∷ []) n = absurd (omega arith)
-whole (a ∷ b ∷ c ∷ d ∷ e ∷ f ∷ []) n = absurd (omega arith)
-whole (a ∷ b ∷ c ∷ d ∷ e ∷ f ∷ g ∷ []) n = absurd (omega arith)
-whole (a ∷ b ∷ c ∷ d ∷ e ∷ f ∷ g ∷ h ∷ []) n = absurd (omega arith)
-whole (a ∷ b ∷ c ∷ d ∷ e ∷ f ∷ g ∷ h ∷ i ∷ []) n = absurd (omega arith)
-whole (a ∷ b ∷ c ∷ d ∷ e ∷ f ∷ g ∷ h ∷ i ∷ j ∷ []) n = absurd (omega arith)
-whole (a ∷ b ∷ c ∷ d ∷ e ∷ f ∷ g ∷ h ∷ i ∷ j ∷ k ∷ []) n = absurd (omega arith)
-whole (a ∷ b ∷ c ∷ d ∷ e ∷ f ∷ g ∷ h ∷ i ∷ j ∷ k ∷ l ∷ []) n = cells a b c d e f g h i j k l
-whole (a ∷ b ∷ c ∷ d ∷ e ∷ f ∷ g ∷ h ∷ i ∷ j ∷ k ∷ l ∷ x ∷ m) n = absurd (omega arith)
 
 -- numbers that fit are read back
 low2 : (v : ℕ) → v < 65536 → lowFirst (lowBytes 2 v) ≡ v
@@ -127,8 +110,14 @@ pub advanced-position : (m : List ℕ) → length m ≡ 12 → positionOf (advan
 advanced-position m n = ap (λ (r : Fields). r .position) (advanced-fields m n)
 
 -- lengths are kept, whatever the length
+pub fresh-length : (m : List ℕ) (checksum state size : ℕ) → length (freshOf m checksum state size) ≡ length m
+fresh-length m checksum state size = length-sets m 0 (state ∷ 0xFF ∷ (lowBytes 2 checksum ++ lowBytes 4 size))
+
+pub row-of-length : (m : List ℕ) (baud position : ℕ) → length (rowOf m baud position) ≡ length m
+row-of-length m baud position = length-sets m 8 (baud ∷ position ∷ [])
+
 pub refreshed-length : (m : List ℕ) (checksum state size : ℕ) → length (refreshed m checksum state size) ≡ length m
-refreshed-length m checksum state size = length-sets m 0 (state ∷ 0xFF ∷ (lowBytes 2 checksum ++ lowBytes 4 size))
+refreshed-length m checksum state size = cut-length 4 m (freshOf m checksum state size) (λ n. fresh-length m checksum state size ∙ n)
 
 pub advanced-length : (m : List ℕ) → length (advanced m) ≡ length m
 advanced-length m = length-set m 0 (half (stateOf m))
@@ -137,7 +126,7 @@ pub trial-length : (m : List ℕ) → length (trialUsed m) ≡ length m
 trial-length m = length-set m 1 (half (trialsOf m))
 
 pub row-length : (m : List ℕ) (baud position : ℕ) → length (rowSet m baud position) ≡ length m
-row-length m baud position = length-sets m 8 (baud ∷ position ∷ [])
+row-length m baud position = cut-length 4 m (rowOf m baud position) (λ n. row-of-length m baud position ∙ n)
 
 -- never above what it was: a byte stays a byte
 pub half-le : (x : ℕ) → half x ≤ x

@@ -10,6 +10,7 @@ use lib.Dec.{eqb}
 use Rattle.laws.specs.Pick.{pick}
 use Rattle.laws.specs.Low.{lowFirst, lowBytes}
 use Rattle.store_record.specs.State.{stateRead}
+use Rattle.store_record.specs.Cuts.{cutAfter}
 
 -- the fields by their offsets, longer numbers low byte first
 abbrev pub stateOf : List ℕ → ℕ
@@ -41,13 +42,20 @@ updating m = eqb (stateRead (stateOf m)) 0x7F
 abbrev pub validating : List ℕ → Bool
 validating m = eqb (stateRead (stateOf m)) 0x3F
 
--- a rewrite: state, all trials, checksum and size; baud, position and reserved bytes are kept
-abbrev pub refreshed : List ℕ → ℕ → ℕ → ℕ → List ℕ
-refreshed m checksum state size = sets m 0 (state ∷ 0xFF ∷ (lowBytes 2 checksum ++ lowBytes 4 size))
+-- a record with another state, all trials, another checksum and size; baud, position and reserved bytes are kept
+abbrev pub freshOf : List ℕ → ℕ → ℕ → ℕ → List ℕ
+freshOf m checksum state size = sets m 0 (state ∷ 0xFF ∷ (lowBytes 2 checksum ++ lowBytes 4 size))
 
--- a rewrite of baud and position, which keeps the trials too
+-- a record with another baud and position, which keeps the trials too
+abbrev pub rowOf : List ℕ → ℕ → ℕ → List ℕ
+rowOf m baud position = sets m 8 (baud ∷ position ∷ [])
+
+-- the rewrites to them, whole: all four steps (02, E4)
+abbrev pub refreshed : List ℕ → ℕ → ℕ → ℕ → List ℕ
+refreshed m checksum state size = cutAfter 4 (freshOf m checksum state size) m
+
 abbrev pub rowSet : List ℕ → ℕ → ℕ → List ℕ
-rowSet m baud position = sets m 8 (baud ∷ position ∷ [])
+rowSet m baud position = cutAfter 4 (rowOf m baud position) m
 
 -- a step down: x AND x shifted right by one
 abbrev pub half : ℕ → ℕ

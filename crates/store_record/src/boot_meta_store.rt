@@ -1,5 +1,9 @@
 // Translated from tinyboot, ch32/src/platform/boot_meta_store.rs (MIT OR Apache-2.0); changed: the record is a lent array of 12 bytes.
 
+use crate::rewrite::RECORD;
+use crate::rewrite::Record;
+use crate::rewrite::STEPS;
+use crate::rewrite::rewrite_steps;
 use crate::traits::BootState;
 use store_flash::cells::byte_at;
 use store_flash::cells::lay;
@@ -9,7 +13,9 @@ ghost use mathlib.Core.Path.{_≡_};
 ghost use mathlib.Core.Bool.{not};
 ghost use lib.Dec.{eqb};
 ghost use lib.ListN.{getD, set};
+ghost use lib.Seq.{sets};
 ghost use Rattle.store_record.specs.State.{stateByte, stateRead};
+ghost use Rattle.store_record.specs.Cuts.{blank};
 ghost use Rattle.store_record.specs.Record.{stateOf, updating, trialsOf, checksumOf, sizeOf, baudOf, positionOf};
 ghost use Rattle.store_record.specs.Record.{half, advanced, trialUsed, rowSet, refreshed, startsLeft};
 
@@ -80,12 +86,23 @@ pub fn position(meta: &[u8]) -> u8
     byte_at(meta, POSITION)
 }
 
+// The record as it stands, for a rewrite to keep of it; what is missing is 0xFF.
+fn kept(meta: &[u8]) -> Record
+    ensures { λ r. ⌜ r ≡ sets blank 0 (now (meta .entry)) ⌝ }
+{
+    let mut new = [0xFFu8; RECORD];
+    lay(&mut new, meta);
+    new
+}
+
 // One rewrite of both, which keeps all else.
 pub fn set_row(meta: &mut [u8], baud: u8, position: u8)
     ensures { λ r. ⌜ now (meta .exit) ≡ rowSet (now (meta .entry)) baud position ⌝ }
 {
-    put(meta, BAUD, baud);
-    put(meta, POSITION, position);
+    let mut new = kept(meta);
+    new[BAUD] = baud;
+    new[POSITION] = position;
+    rewrite_steps(meta, new, STEPS);
 }
 
 // One byte loses a 1: a single store.
@@ -114,8 +131,10 @@ pub fn refresh(meta: &mut [u8], checksum: u16, state: BootState, app_size: u32)
 {
     let c = le::bytes16(checksum);
     let z = le::bytes32(app_size);
-    let new = [state.to_u8(), 0xFF, c[0], c[1], z[0], z[1], z[2], z[3]];
-    lay(meta, &new);
+    let first = [state.to_u8(), 0xFF, c[0], c[1], z[0], z[1], z[2], z[3]];
+    let mut new = kept(meta);
+    lay(&mut new, &first);
+    rewrite_steps(meta, new, STEPS);
 }
 
 // How many starts a trials byte still allows: its longest run of ones.
