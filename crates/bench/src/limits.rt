@@ -1,6 +1,7 @@
 // What a line may carry.
 use crate::numbers;
 use store_flash::cells::byte_at;
+use store_record::rewrite::STEPS;
 use wire_frames::frame::FRAME;
 ghost use mathlib.Core.Path.{_≡_};
 ghost use Prim.Native.Nat.{ℕ, _+_, _-_};
@@ -44,7 +45,7 @@ pub(crate) fn count_of(letter: u8) -> Count
     ensures { λ r. ⌜ ((n : ℕ) → between (r .least) (r .most) n ≡ carried letter n) ⌝ }
 {
     match letter {
-        b's' => from_to(31, 31),
+        b's' => from_to(31, 32),
         b'n' => from_to(4, 4),
         b'c' => from_to(1, 1),
         b'm' => from_to(2, 2),
@@ -57,6 +58,7 @@ pub(crate) fn count_of(letter: u8) -> Count
         b'o' => from_to(0, LINE),
         b'd' => from_to(0, 0),
         b't' => from_to(0, LINE),
+        b'j' => from_to(13, 13),
         _ => from_to(1, 0),
     }
 }
@@ -116,6 +118,7 @@ fn is_within(letter: u8, bytes: &[u8]) -> bool
         b'p' => is_settable(byte_at(bytes, 0), numbers::four(bytes, 1)),
         b'q' => has_room(byte_at(bytes, 0) as usize, past(bytes.len(), 1), FRAME),
         b'b' => byte_at(bytes, 0) <= 1,
+        b'j' => byte_at(bytes, 0) <= STEPS,
         _ => true,
     }
 }

@@ -1,4 +1,5 @@
 // One module on the bench, driven by a script on standard input: docs/BENCH.md has its language.
+mod cutting;
 mod digits;
 mod dump;
 mod feeding;

@@ -4,6 +4,7 @@ use crate::limits;
 use crate::numbers;
 use device_start::new_state;
 use device_state::Numbers;
+use device_state::PRESENT;
 use device_state::Setup;
 use device_state::State;
 use store_flash::cells::byte_at;
@@ -51,6 +52,7 @@ pub(crate) fn listening() -> Setup {
         id_len: 0,
         version: 0,
         key: COMPAT_UNSET,
+        start_kind: PRESENT,
     }
 }
 
@@ -64,7 +66,15 @@ fn id_of(bytes: &[u8]) -> [u8; 16] {
     id
 }
 
-// The setup that 31 bytes stand for.
+// The kind of start that a setup's last byte is; the present one where there is none.
+fn kind_of(bytes: &[u8]) -> u8 {
+    if bytes.len() <= 31 {
+        return PRESENT;
+    }
+    byte_at(bytes, 31)
+}
+
+// The setup that 31 bytes stand for, or 32.
 pub(crate) fn setup_of(bytes: &[u8]) -> Setup {
     let id = id_of(bytes);
     Setup {
@@ -74,6 +84,7 @@ pub(crate) fn setup_of(bytes: &[u8]) -> Setup {
         id_len: byte_at(bytes, 8) as usize,
         version: numbers::two(bytes, 25),
         key: numbers::four(bytes, 27),
+        start_kind: kind_of(bytes),
     }
 }
 
@@ -121,6 +132,14 @@ pub(crate) fn renewed(
         out: out,
     };
     adopted(bench, state, f, page)
+}
+
+// The bytes past the first so many, which a line within its limits has.
+pub(crate) fn after<'a>(s: &'a [u8], n: usize) -> &'a [u8] {
+    if n <= s.len() {
+        return &s[n..];
+    }
+    s
 }
 
 // The bytes from a place on.

@@ -1,4 +1,5 @@
 // The script: a line is read whole before it acts.
+use crate::cutting;
 use crate::dump;
 use crate::feeding;
 use crate::input;
@@ -18,14 +19,6 @@ use wire_frames::frame::FrameBytes;
 ghost use mathlib.Core.Path.{_≡_};
 ghost use Prim.Native.Nat.{_≤_, _<_, _+_, _^_};
 ghost use lib.ListN.{length};
-
-// The bytes past the first so many, which a line within its limits has.
-fn after<'a>(s: &'a [u8], n: usize) -> &'a [u8] {
-    if n <= s.len() {
-        return &s[n..];
-    }
-    s
-}
 
 // A line that is none: its number, and why.
 fn refuse(bench: Bench, line: Line, bytes: &[u8], out: &mut [u8]) -> Bench {
@@ -83,11 +76,15 @@ fn recorded(bench: Bench, bytes: &[u8]) -> Bench {
 fn store(bench: Bench, letter: u8, bytes: &[u8], f: &mut FrameBytes, flash: &mut [u8]) -> Bench {
     match letter {
         b'f' => {
-            module::poke(flash, numbers::four(bytes, 0) as usize, after(bytes, 4));
+            module::poke(
+                flash,
+                numbers::four(bytes, 0) as usize,
+                module::after(bytes, 4),
+            );
             bench
         }
         b'q' => {
-            module::poke(f, byte_at(bytes, 0) as usize, after(bytes, 1));
+            module::poke(f, byte_at(bytes, 0) as usize, module::after(bytes, 1));
             bench
         }
         _ => recorded(bench, bytes),
@@ -132,6 +129,7 @@ fn act(
         b'f' | b'r' | b'q' => store(bench, letter, bytes, f, flash),
         b'd' => dump::dump(bench, f, flash, room, out),
         b't' => say(bench, bytes, out),
+        b'j' => cutting::cut(bench, bytes),
         _ => drive(bench, letter, bytes, f, page, flash, room, out),
     }
 }

@@ -3,6 +3,7 @@ use crate::limits;
 use crate::line::Line;
 use crate::show;
 use store_flash::cells::byte_at;
+use store_record::rewrite::STEPS;
 use wire_frames::frame::FRAME;
 
 fn more(out: &mut [u8], at: usize, most: usize) -> usize {
@@ -31,6 +32,7 @@ fn number(out: &mut [u8], at: usize, letter: u8, bytes: &[u8]) -> usize {
         b'f' => past(out, at, limits::FLASH),
         b'q' => past(out, at, FRAME),
         b'b' => show::text(out, at, b"no such mode"),
+        b'j' => more(out, at, STEPS as usize),
         _ => field(out, at, byte_at(bytes, 0)),
     }
 }

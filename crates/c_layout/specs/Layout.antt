@@ -24,7 +24,7 @@ numbersAt cap page = 12 + cap + page
 
 -- how many bytes a setup, a state and an answer take
 abbrev pub setupSize : ℕ
-setupSize = 31
+setupSize = 32
 
 abbrev pub stateSize : ℕ → ℕ → ℕ
 stateSize cap page = numbersAt cap page + 8
@@ -32,7 +32,7 @@ stateSize cap page = numbersAt cap page + 8
 abbrev pub answerSize : ℕ
 answerSize = 16
 
--- the setup that 31 bytes stand for: erase size, capacity, id length, id, boot version, key
+-- the setup that 32 bytes stand for: erase size, capacity, id length, id, boot version, key, kind of start
 abbrev pub setupFrom : List ℕ → Setup
 setupFrom l =
     record {
@@ -42,6 +42,7 @@ setupFrom l =
       id = part 9 16 l;
       version = lowFirst (part 25 2 l);
       key = lowFirst (part 27 4 l);
+      «start_kind» = getD l 31 0;
     }
 
 -- a flag's byte

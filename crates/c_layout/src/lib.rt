@@ -15,7 +15,7 @@ ghost use Rattle.device_replies.specs.Inner.{toldBy};
 ghost use Rattle.c_layout.specs.Layout.{setupSize, holdsState, flagByte, numberBytes, stateBytes, answerBytes, answered};
 
 // How many bytes a setup, a state and an answer take.
-pub const SETUP_SIZE: usize = 31;
+pub const SETUP_SIZE: usize = 32;
 
 pub const STATE_SIZE: usize = NEXT + 8;
 

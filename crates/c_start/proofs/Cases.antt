@@ -13,7 +13,7 @@ use Rattle.wire_frames.specs.Stored.{wellOf}
 use Rattle.device_state.specs.declared.Setup.{Setup}
 use Rattle.device_state.specs.Refusals.{setUp, runFits, wellFormed, lengthsOf, refusalOf}
 use Rattle.device_boot.specs.Start.{Decision, startOf}
-use Rattle.device_start.specs.Starts.{Booted, left, decidedTo, newState, startRefusal, startedOf}
+use Rattle.device_start.specs.Starts.{Booted, left, decidedTo, newState, startRefusal, careful, startedOf}
 use Rattle.device_replies.specs.Answers.{mute}
 use Rattle.c_layout.specs.Layout.{stateBytes, answerBytes}
 use Rattle.c_start.specs.Start as Calls
@@ -48,7 +48,7 @@ pub new-always : (cap page : ℕ) (s : Setup) (mode : ℕ) (flash meta : List �
     startedOf cap page s mode flash meta .state ≡ newState cap page (startedOf cap page s mode flash meta .state .numbers .closed)
 unfolding startedOf
 new-always cap page s mode flash meta =
-    go (eqb (startRefusal page s (length flash) (length meta)) 0) (startOf (s .capacity) mode flash meta) (startRefusal page s (length flash) (length meta))
+    go (eqb (startRefusal page s (length flash) (length meta)) 0) (startOf (careful s) (s .capacity) mode flash meta) (startRefusal page s (length flash) (length meta))
   where
     go : (t : Bool) (d : Decision) (n : ℕ) → pick t (decidedTo cap page d) (left cap page n 1 true meta) .state ≡
         newState cap page (pick t (decidedTo cap page d) (left cap page n 1 true meta) .state .numbers .closed)

@@ -1,6 +1,6 @@
--- The decision of a start (01, Record, flash, start).
+-- The decision of a start (01, Record, flash, start). `careful` is the kind of start (02, E4): true for the careful one, false for the present one.
 use Prim.Native.Nat.{ℕ}
-use mathlib.Core.Bool.{Bool, true, false, _&&_}
+use mathlib.Core.Bool.{Bool, true, false, not, _&&_}
 use mathlib.Core.List.{List}
 use lib.ListN.{take}
 use lib.Dec.{leb, eqb}
@@ -11,10 +11,11 @@ use Rattle.wire_numbers.specs.declared.RunMode.{RunMode}
 use Rattle.store_record.specs.State.{appPresent}
 use Rattle.store_record.specs.Record.{updating, validating, trialsOf, checksumOf, sizeOf, trialUsed}
 
--- whether the image passes: with a checksum stored, a size within the capacity and the CRC of so many bytes; with none, the sign of an app
-unfoldable pub validOf : ℕ → List ℕ → List ℕ → Bool
-validOf capacity flash meta =
-    if eqb (checksumOf meta) 0xFFFF then appPresent flash else
+-- whether the image passes: with a checksum stored, a size within the capacity and the CRC of so many bytes; with none, the sign of an app, where the careful
+-- start stays
+unfoldable pub validOf : Bool → ℕ → List ℕ → List ℕ → Bool
+validOf careful capacity flash meta =
+    if eqb (checksumOf meta) 0xFFFF then not careful && appPresent flash else
     leb (sizeOf meta) capacity && eqb (crcOf (take (sizeOf meta) flash)) (checksumOf meta)
 
 -- whether a start goes on to the image, and the record afterwards
@@ -48,9 +49,9 @@ abbrev pub stays : List ℕ → Decision
 stays m = record { mode = 1; meta = m }
 
 -- a start that goes on hands off to an image that passes
-abbrev pub checkedOf : ℕ → List ℕ → Clearance → Decision
-checkedOf capacity flash c = if c .clear && validOf capacity flash (c .meta) then record { mode = 0; meta = c .meta } else stays (c .meta)
+abbrev pub checkedOf : Bool → ℕ → List ℕ → Clearance → Decision
+checkedOf careful capacity flash c = if c .clear && validOf careful capacity flash (c .meta) then record { mode = 0; meta = c .meta } else stays (c .meta)
 
 -- Service where it is asked for
-unfoldable pub startOf : ℕ → ℕ → List ℕ → List ℕ → Decision
-startOf capacity mode flash meta = if eqb mode 1 then stays meta else checkedOf capacity flash (clearedOf meta)
+unfoldable pub startOf : Bool → ℕ → ℕ → List ℕ → List ℕ → Decision
+startOf careful capacity mode flash meta = if eqb mode 1 then stays meta else checkedOf careful capacity flash (clearedOf meta)

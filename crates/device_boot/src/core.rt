@@ -10,12 +10,16 @@ ghost use mathlib.Core.Path.{_≡_};
 ghost use Rattle.device_boot.specs.Start.{validOf, triedOf, clearedOf, clears, startOf, decided};
 ghost use Rattle.wire_numbers.specs.Names.{modeNumber};
 
-// Whether the image may run. The CRC covers the stored size only, not the whole flash.
-fn validate_app(capacity: usize, flash: &[u8], meta: &[u8]) -> bool
-    ensures { λ r. ⌜ r ≡ validOf capacity (now (flash .entry)) (now (meta .entry)) ⌝ }
+// Whether the image may run. The CRC covers the stored size only, not the whole flash. With no CRC stored a careful start does not look for an app: an erased
+// record is no more than a rewrite that was cut.
+fn validate_app(careful: bool, capacity: usize, flash: &[u8], meta: &[u8]) -> bool
+    ensures { λ r. ⌜ r ≡ validOf careful capacity (now (flash .entry)) (now (meta .entry)) ⌝ }
 {
     let stored = boot_meta_store::app_checksum(meta);
     if stored == 0xFFFF {
+        if careful {
+            return false;
+        }
         return traits::app_present(flash);
     }
     let size = boot_meta_store::app_size(meta) as usize;
@@ -49,14 +53,20 @@ fn cleared(meta: &mut [u8]) -> bool
 }
 
 // What a start decides. Of the record nothing but the trials byte changes.
-pub fn check_boot_state(capacity: usize, mode: RunMode, flash: &[u8], meta: &mut [u8]) -> RunMode
-    ensures { λ r. ⌜ decided r (now (meta .exit)) ≡ startOf capacity (modeNumber mode) (now (flash .entry)) (now (meta .entry)) ⌝ }
+pub fn check_boot_state(
+    careful: bool,
+    capacity: usize,
+    mode: RunMode,
+    flash: &[u8],
+    meta: &mut [u8],
+) -> RunMode
+    ensures { λ r. ⌜ decided r (now (meta .exit)) ≡ startOf careful capacity (modeNumber mode) (now (flash .entry)) (now (meta .entry)) ⌝ }
 {
     if let RunMode::Service = mode {
         return RunMode::Service;
     }
     if cleared(meta) {
-        if validate_app(capacity, flash, meta) {
+        if validate_app(careful, capacity, flash, meta) {
             return RunMode::HandOff;
         }
     }

@@ -22,7 +22,7 @@ record Case : Type 0 where
 -- 128 bytes of flash, erased in pages of 64
 abbrev device : ℕ → Setup
 device idLen =
-    record { «erase_size» = 64; capacity = 128; id = 0x5A ∷ 1 ∷ replicate {A = ℕ} 14 0; «id_len» = idLen; version = 0; key = 0xFFFFFFFF }
+    record { «erase_size» = 64; capacity = 128; id = 0x5A ∷ 1 ∷ replicate {A = ℕ} 14 0; «id_len» = idLen; version = 0; key = 0xFFFFFFFF; «start_kind» = 0 }
 
 abbrev call : Case → Called
 call c =

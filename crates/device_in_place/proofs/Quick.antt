@@ -34,12 +34,12 @@ pub clear-none : (a d : Bool) → a ≡ false → false ≡ a && d
 clear-none a d x = rw x refl
 
 -- the cases of the call
-module _ (erase capacity idLen : ℕ) (n : Numbers) (s : List ℕ) (b flash meta room : ℕ) where
+module _ (erase capacity idLen kind : ℕ) (n : Numbers) (s : List ℕ) (b flash meta room : ℕ) where
   abbrev test : Bool
-  test = clearOf 52 64 erase capacity idLen n flash meta room
+  test = clearOf 52 64 erase capacity idLen kind n flash meta room
 
   abbrev call : Laid
-  call = byteOn 52 64 erase capacity idLen n s b flash meta room
+  call = byteOn 52 64 erase capacity idLen kind n s b flash meta room
 
   abbrev frame : List ℕ
   frame = frameIn 52 s
@@ -99,15 +99,15 @@ laid-not true false x s s' e = ap (λ (v : Laid). v .bytes) e
 laid-not false d x s s' e = ap (λ (v : Laid). v .bytes) e
 
 -- not taken, the byte leaves all as it was
-pub byte-kept : (erase capacity idLen : ℕ) (n : Numbers) (s : List ℕ) (b flash meta room : ℕ) (s' : List ℕ) →
-    laidTo false s' ≡ byteOn 52 64 erase capacity idLen n s b flash meta room → s' ≡ s
+pub byte-kept : (erase capacity idLen kind : ℕ) (n : Numbers) (s : List ℕ) (b flash meta room : ℕ) (s' : List ℕ) →
+    laidTo false s' ≡ byteOn 52 64 erase capacity idLen kind n s b flash meta room → s' ≡ s
 unfolding byteOn
-byte-kept erase capacity idLen n s b flash meta room s' e =
+byte-kept erase capacity idLen kind n s b flash meta room s' e =
     let d : Bool = layByteOf 52 true (frameIn 52 s) (n .got) b .done in
-    laid-not (leb 128 (length s) && clearOf 52 64 erase capacity idLen n flash meta room) d (set s (n .got) b) s s' e
+    laid-not (leb 128 (length s) && clearOf 52 64 erase capacity idLen kind n flash meta room) d (set s (n .got) b) s s' e
 
 module _ (setup : Setup) (s : List ℕ) (n : Numbers) (b flash meta room : ℕ) (s' : List ℕ)
-    (e : laidTo true s' ≡ byteOn 52 64 (setup .«erase_size») (setup .capacity) (setup .«id_len») n s b flash meta room) where
+    (e : laidTo true s' ≡ byteOn 52 64 (setup .«erase_size») (setup .capacity) (setup .«id_len») (setup .«start_kind») n s b flash meta room) where
   abbrev f : List ℕ
   f = frameIn 52 s
 

@@ -29,13 +29,13 @@ layByteOf cap device f g b =
     pick ((eqb (length f) (12 + cap) && wellOf cap device f g) && plainAt f g) (laidTo true (set f g b)) (laidTo false f)
 
 -- nothing but the frame can refuse the call (01, What a call says, 10 to 15)
-abbrev pub clearOf : ℕ → ℕ → ℕ → ℕ → ℕ → Numbers → ℕ → ℕ → ℕ → Bool
-clearOf cap page erase capacity idLen n flash meta room =
-    fits page erase capacity idLen && (runFits page capacity (n .fill) (n .next) && eqb (lengthsOf cap capacity flash meta room (n .closed)) 0)
+abbrev pub clearOf : ℕ → ℕ → ℕ → ℕ → ℕ → ℕ → Numbers → ℕ → ℕ → ℕ → Bool
+clearOf cap page erase capacity idLen kind n flash meta room =
+    fits page erase capacity idLen kind && (runFits page capacity (n .fill) (n .next) && eqb (lengthsOf cap capacity flash meta room (n .closed)) 0)
 
 -- the call: the byte is laid in the frame, where nothing refuses it
-unfoldable pub byteOn : ℕ → ℕ → ℕ → ℕ → ℕ → Numbers → List ℕ → ℕ → ℕ → ℕ → ℕ → Laid
-byteOn cap page erase capacity idLen n s b flash meta room =
-    pick (leb (12 + cap + page) (length s) && clearOf cap page erase capacity idLen n flash meta room)
+unfoldable pub byteOn : ℕ → ℕ → ℕ → ℕ → ℕ → ℕ → Numbers → List ℕ → ℕ → ℕ → ℕ → ℕ → Laid
+byteOn cap page erase capacity idLen kind n s b flash meta room =
+    pick (leb (12 + cap + page) (length s) && clearOf cap page erase capacity idLen kind n flash meta room)
     (laidTo (layByteOf cap true (frameIn cap s) (n .got) b .done) (pick (layByteOf cap true (frameIn cap s) (n .got) b .done) (set s (n .got) b) s))
     (laidTo false s)

@@ -229,14 +229,15 @@ fn clear(
     erase: usize,
     capacity: usize,
     id_len: usize,
+    start_kind: u8,
     n: Numbers,
     flash: usize,
     meta: usize,
     room: usize,
 ) -> bool
-    ensures { λ r. ⌜ r ≡ clearOf 52 64 erase capacity «id_len» n flash meta room ⌝ }
+    ensures { λ r. ⌜ r ≡ clearOf 52 64 erase capacity «id_len» «start_kind» n flash meta room ⌝ }
 {
-    if refusal::fits(erase, capacity, id_len) {
+    if refusal::fits(erase, capacity, id_len, start_kind) {
         if refusal::run_fits(capacity, n.fill, n.next) {
             let refusal = refusal::of_lengths(capacity, flash, meta, room, n.closed);
             return refusal.is_none();
@@ -251,6 +252,7 @@ pub fn byte_on(
     erase: usize,
     capacity: usize,
     id_len: usize,
+    start_kind: u8,
     n: Numbers,
     s: &mut [u8],
     b: u8,
@@ -258,9 +260,9 @@ pub fn byte_on(
     meta: usize,
     room: usize,
 ) -> bool
-    ensures { λ r. ⌜ laidTo r (now (s .exit)) ≡ byteOn 52 64 erase capacity «id_len» n (now (s .entry)) b flash meta room ⌝ }
+    ensures { λ r. ⌜ laidTo r (now (s .exit)) ≡ byteOn 52 64 erase capacity «id_len» «start_kind» n (now (s .entry)) b flash meta room ⌝ }
 {
-    if clear(erase, capacity, id_len, n, flash, meta, room) {
+    if clear(erase, capacity, id_len, start_kind, n, flash, meta, room) {
         if STATE <= s.len() {
             return lay_byte(&mut s[..FRAME], n.got, true, b);
         }

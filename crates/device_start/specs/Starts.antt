@@ -43,8 +43,13 @@ startedTo r meta = record { answer = refusalNumber (r .refusal); mode = modeNumb
 abbrev pub decidedTo : ℕ → ℕ → Decision → Booted
 decidedTo cap page d = left cap page 0 (d .mode) (eqb (d .mode) 0) (d .meta)
 
+-- the kind of start that a setup asks for (02, E4): 1 is the careful one
+abbrev pub careful : Setup → Bool
+careful s = eqb (s .«start_kind») 1
+
 -- refused: Service, a closed state, and nothing changed
 unfoldable pub startedOf : ℕ → ℕ → Setup → ℕ → List ℕ → List ℕ → Booted
 startedOf cap page s mode flash meta =
-    if eqb (startRefusal page s (length flash) (length meta)) 0 then decidedTo cap page (startOf (s .capacity) mode flash meta) else
+    if eqb (startRefusal page s (length flash) (length meta)) 0 then
+    decidedTo cap page (startOf (careful s) (s .capacity) mode flash meta) else
     left cap page (startRefusal page s (length flash) (length meta)) 1 true meta

@@ -1,6 +1,7 @@
 // Translated from tinyboot, lib/core/src/core.rs (MIT OR Apache-2.0); changed: what the Rust runs into is a new state, and the app is an answer.
 
 use device_boot::core;
+use device_state::CAREFUL;
 use device_state::Numbers;
 use device_state::Setup;
 use device_state::State;
@@ -80,10 +81,11 @@ fn refused(refusal: Refusal) -> Started
     }
 }
 
-fn begun(capacity: usize, mode: RunMode, flash: &[u8], meta: &mut [u8]) -> Started
-    ensures { λ r. ⌜ startedTo r (now (meta .exit)) ≡ decidedTo 52 64 (startOf capacity (modeNumber mode) (now (flash .entry)) (now (meta .entry))) ⌝ }
+fn begun(careful: bool, capacity: usize, mode: RunMode, flash: &[u8], meta: &mut [u8]) -> Started
+    ensures { λ r. ⌜ startedTo r (now (meta .exit)) ≡
+        decidedTo 52 64 (startOf careful capacity (modeNumber mode) (now (flash .entry)) (now (meta .entry))) ⌝ }
 {
-    let decision = core::check_boot_state(capacity, mode, flash, meta);
+    let decision = core::check_boot_state(careful, capacity, mode, flash, meta);
     Started {
         state: new_state(hands_off(decision)),
         refusal: Refusal::None,
@@ -97,7 +99,8 @@ pub fn start(setup: Setup, mode: RunMode, flash: &[u8], meta: &mut [u8]) -> Star
 {
     let refusal = refuses(setup, flash.len(), meta.len());
     if refusal.is_none() {
-        return begun(setup.capacity, mode, flash, meta);
+        let careful = setup.start_kind == CAREFUL;
+        return begun(careful, setup.capacity, mode, flash, meta);
     }
     refused(refusal)
 }

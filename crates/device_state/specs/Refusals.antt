@@ -18,13 +18,13 @@ eraseSizeFits page erase = leb page erase && (leb erase 32768 && eqb (erase % pa
 unfoldable pub capacityFits : ℕ → ℕ → Bool
 capacityFits erase capacity = not (eqb erase 0) && (not (eqb capacity 0) && (leb capacity 65536 && eqb (capacity % erase) 0))
 
--- both, and an id of at most 16 bytes, none for an unaddressed device
-unfoldable pub fits : ℕ → ℕ → ℕ → ℕ → Bool
-fits page erase capacity idLen = eraseSizeFits page erase && (capacityFits erase capacity && leb idLen 16)
+-- both, an id of at most 16 bytes, none for an unaddressed device, and a kind of start: 0 the present one, 1 the careful one (02, E4)
+unfoldable pub fits : ℕ → ℕ → ℕ → ℕ → ℕ → Bool
+fits page erase capacity idLen kind = eraseSizeFits page erase && (capacityFits erase capacity && (leb idLen 16 && leb kind 1))
 
 -- a good setup
 abbrev pub setUp : ℕ → Setup → Bool
-setUp page s = fits page (s .«erase_size») (s .capacity) (s .«id_len»)
+setUp page s = fits page (s .«erase_size») (s .capacity) (s .«id_len») (s .«start_kind»)
 
 -- the run of writes in a state: the fill is below a page; with no write pending it is 0, else the next write is within the capacity, at that place of its page
 unfoldable pub runFits : ℕ → ℕ → ℕ → ℕ → Bool

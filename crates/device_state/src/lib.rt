@@ -13,7 +13,13 @@ pub struct Setup {
     pub id_len: usize,
     pub version: u16,
     pub key: u32,
+    pub start_kind: u8,
 }
+
+// The kinds of start. Where no checksum is stored, the present one asks for the sign of an app, and the careful one stays.
+pub const PRESENT: u8 = 0;
+
+pub const CAREFUL: u8 = 1;
 
 // What a device keeps between calls beside its two arrays: how many bytes of a frame have begun; of the run of writes, how much of its page is filled and the
 // next address (NONE_PENDING with none pending); the selection; whether a restart is due.

@@ -1,5 +1,6 @@
 // When a call refuses. Ours: the Rust's types rule these out, or it does not look.
 
+use crate::CAREFUL;
 use crate::Numbers;
 use crate::Setup;
 use store_flash::storage::NONE_PENDING;
@@ -73,12 +74,14 @@ fn capacity_fits(erase: usize, capacity: usize) -> bool
 }
 
 // Whether these numbers are a setup's.
-pub fn fits(erase: usize, capacity: usize, id_len: usize) -> bool
-    ensures { λ r. ⌜ r ≡ fits 64 erase capacity «id_len» ⌝ }
+pub fn fits(erase: usize, capacity: usize, id_len: usize, start_kind: u8) -> bool
+    ensures { λ r. ⌜ r ≡ fits 64 erase capacity «id_len» «start_kind» ⌝ }
 {
     if erase_fits(erase) {
         if capacity_fits(erase, capacity) {
-            return id_len <= 16;
+            if id_len <= 16 {
+                return start_kind <= CAREFUL;
+            }
         }
     }
     false
@@ -87,7 +90,12 @@ pub fn fits(erase: usize, capacity: usize, id_len: usize) -> bool
 pub fn set_up(setup: Setup) -> bool
     ensures { λ r. ⌜ r ≡ setUp 64 setup ⌝ }
 {
-    fits(setup.erase_size, setup.capacity, setup.id_len)
+    fits(
+        setup.erase_size,
+        setup.capacity,
+        setup.id_len,
+        setup.start_kind,
+    )
 }
 
 // With no write pending nothing is filled; else the next write is within the capacity, and the fill is its place in the page.

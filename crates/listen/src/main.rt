@@ -2,6 +2,7 @@
 // at the end, how many bytes of a frame have begun. A restart ends it.
 use device_feed::feed;
 use device_replies::Answer;
+use device_state::PRESENT;
 use device_state::Setup;
 use device_state::State;
 use device_turns::Silence;
@@ -27,6 +28,7 @@ fn unaddressed() -> Setup {
         id_len: 0,
         version: 0,
         key: COMPAT_UNSET,
+        start_kind: PRESENT,
     }
 }
 

@@ -18,7 +18,8 @@ use Rattle.cmd_write.proofs.Runs.{Pending}
 use Rattle.device_state.specs.declared.Numbers.{Numbers}
 use Rattle.device_state.specs.declared.Setup.{Setup}
 use Rattle.device_state.specs.State.{World, gotSet, frameSet, numbersSet}
-use Rattle.device_state.specs.Refusals.{eraseSizeFits, capacityFits, fits, setUp, runFits, wellFormed, lengthsOf, refusalOf}
+use Rattle.device_state.specs.Refusals.{runFits, wellFormed, lengthsOf, refusalOf}
+use Rattle.device_state.proofs.Limits.{set-up-limits}
 use Rattle.device_dispatcher.specs.Dispatch.{dispatchOf}
 use Rattle.device_feed.specs.Feed.{afterRead, takenOf, refusalFor, fedOf}
 use Rattle.theorem_streams.specs.Rules.{callOf}
@@ -52,19 +53,6 @@ run-to capacity fill next h p = simp (lt-ltb fill 64 (p .below)) (go (p .place))
         pick (eqb next nonePending) (eqb fill 0) (leb next capacity && eqb (next % 64) fill) ≡ true
     go (inl x) = simp (eq-eqb next nonePending (x .0), eq-eqb fill 0 (x .1))
     go (inr x) = simp (ne-eqb next nonePending (λ e. omega (arith, x .0)), le-leb next capacity (x .0), eq-eqb (next % 64) fill (x .1))
-
-named : (page : ℕ) (s : Setup) → setUp page s ≡ true → (s .«id_len» ≤ 16) × (s .capacity ≤ 65536)
-unfolding fits capacityFits
-named page s e =
-    let erase : ℕ = s .«erase_size» in
-    let capacity : ℕ = s .capacity in
-    let most : Bool = leb capacity 65536 && eqb (capacity % erase) 0 in
-    let size : Bool = not (eqb erase 0) && (not (eqb capacity 0) && most) in
-    let a = and-both (eraseSizeFits page erase) (size && leb (s .«id_len») 16) e in
-    let b = and-both size (leb (s .«id_len») 16) (a .1) in
-    let c = and-both (not (eqb erase 0)) (not (eqb capacity 0) && most) (b .0) in
-    let d = and-both (not (eqb capacity 0)) most (c .1) in
-    (leb-true (s .«id_len») 16 (b .1), leb-true capacity 65536 (and-both (leb capacity 65536) (eqb (capacity % erase) 0) (d .1) .0))
 
 module _ (s : Setup) where
   -- a world that fits a setup is well formed
@@ -107,14 +95,14 @@ module _ (s : Setup) where
           }
 
       id-short : s .«id_len» ≤ 16
-      id-short = named 64 s (y .setup) .0
+      id-short = set-up-limits 64 s (y .setup) .0
 
       left-fit : (room : List ℕ) → Fit s (dispatchOf 52 64 s k come room .left)
       left-fit = dispatch-fit s k come id-short come-fit (y .unclosed)
 
       left-formed : (room : List ℕ) →
           wellFormed 52 64 s (dispatchOf 52 64 s k come room .left .state .frame) (dispatchOf 52 64 s k come room .left .state .numbers) ≡ true
-      left-formed room = fit-formed (dispatchOf 52 64 s k come room .left) (named 64 s (y .setup) .1) (left-fit room)
+      left-formed room = fit-formed (dispatchOf 52 64 s k come room .left) (set-up-limits 64 s (y .setup) .1) (left-fit room)
 
       -- after a restart a call is refused as closed
       shut : (room : List ℕ) → dispatchOf 52 64 s k come room .left .state .numbers .closed ≡ true → (other : List ℕ) → 64 ≤ length other →

@@ -21,7 +21,7 @@ use Rattle.theorem_demands.proofs.Cut.{new-good}
 
 -- a new unaddressed module of 64 bytes
 abbrev module-of-64 : Setup
-module-of-64 = record { «erase_size» = 64; capacity = 64; id = replicate {A = ℕ} 16 0; «id_len» = 0; version = 0; key = 0xFFFFFFFF }
+module-of-64 = record { «erase_size» = 64; capacity = 64; id = replicate {A = ℕ} 16 0; «id_len» = 0; version = 0; key = 0xFFFFFFFF; «start_kind» = 0 }
 
 abbrev fresh : World
 fresh = record { state = newState 52 64 false; flash = blank 64; meta = blank 12 }

@@ -40,10 +40,13 @@ abbrev pub expected : List Limit → List ℕ
 expected [] = []
 expected (l ∷ rest) = l .fed ∷ l .started ∷ expected rest
 
--- a setup of this erase size, capacity and length of the id; the state's numbers but for the selection
+-- a setup of this erase size, capacity, length of the id and kind of start, or of the present one; the state's numbers but for the selection
+abbrev pub setupWith : ℕ → ℕ → ℕ → ℕ → Setup
+setupWith erase capacity idLen kind =
+    record { «erase_size» = erase; capacity = capacity; id = replicate {A = ℕ} 16 0; «id_len» = idLen; version = 0; key = 0xFFFFFFFF; «start_kind» = kind }
+
 abbrev pub setupOf : ℕ → ℕ → ℕ → Setup
-setupOf erase capacity idLen =
-    record { «erase_size» = erase; capacity = capacity; id = replicate {A = ℕ} 16 0; «id_len» = idLen; version = 0; key = 0xFFFFFFFF }
+setupOf erase capacity idLen = setupWith erase capacity idLen 0
 
 abbrev pub state : ℕ → ℕ → ℕ → Bool → Numbers
 state got fill next closed = numbered got fill next false closed
@@ -52,7 +55,11 @@ state got fill next closed = numbered got fill next false closed
 abbrev pub setup : ℕ → ℕ → ℕ → ℕ → Limit
 setup erase capacity idLen answer = limit (setupOf erase capacity idLen) (newFrame 52) (state 0 0 0xFFFFFFFF false) capacity 12 64 answer answer
 
--- on a device of 128 bytes, erased by 64, the state's fill, its next address, and what a feed answers; a start looks at no state
+-- on a device of 128 bytes, erased by 64, the kind of start, and what both answer
+abbrev pub kind : ℕ → ℕ → Limit
+kind k answer = limit (setupWith 64 128 0 k) (newFrame 52) (state 0 0 0xFFFFFFFF false) 128 12 64 answer answer
+
+-- there, the state's fill, its next address, and what a feed answers; a start looks at no state
 abbrev pub run : ℕ → ℕ → ℕ → Limit
 run fill next answer = limit (setupOf 64 128 0) (newFrame 52) (state 0 fill next false) 128 12 64 answer 0
 
@@ -95,6 +102,10 @@ capacities =
 abbrev pub ids : List Limit
 ids = setup 64 128 1 0 ∷ setup 64 128 16 0 ∷ setup 64 128 17 10 ∷ []
 
+-- 10: the kind of start is 0 or 1 (02, E4)
+abbrev pub kinds : List Limit
+kinds = kind 0 0 ∷ kind 1 0 ∷ kind 2 10 ∷ kind 255 10 ∷ []
+
 -- 11: the fill is below 64; with no write pending it is 0, else the next address is at most the capacity and stands at the fill's place of its page
 abbrev pub runs : List Limit
 runs =
@@ -121,4 +132,4 @@ order =
     both 12 13 12 ∷ both 12 14 12 ∷ both 12 15 12 ∷ both 13 14 13 ∷ both 13 15 13 ∷ both 14 15 0 ∷ []
 
 abbrev pub limits : List Limit
-limits = eraseSizes ++ (capacities ++ (ids ++ (runs ++ (frames ++ (lengths ++ order)))))
+limits = eraseSizes ++ (capacities ++ (ids ++ (kinds ++ (runs ++ (frames ++ (lengths ++ order))))))

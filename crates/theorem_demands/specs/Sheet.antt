@@ -103,7 +103,7 @@ pub record Row : Type 0 where
   pub stream : List ℕ
   pub after : Came
 
--- erase size 64, boot version 0x0102; as much flash as the row has; an id of no bytes is an unaddressed device's
+-- erase size 64, boot version 0x0102, the present start; as much flash as the row has; an id of no bytes is an unaddressed device's
 abbrev pub setupOf : Row → Setup
 setupOf r =
     record {
@@ -113,12 +113,13 @@ setupOf r =
       «id_len» = length (r .id);
       version = 0x0102;
       key = r .key;
+      «start_kind» = 0;
     }
 
 -- so many starts, each asked for a hand-off: what they leave of the record
 unfoldable pub startedBy : ℕ → ℕ → List ℕ → List ℕ → List ℕ
 startedBy zero capacity flash meta = meta
-startedBy (suc n) capacity flash meta = startedBy n capacity flash (startOf capacity 0 flash meta .meta)
+startedBy (suc n) capacity flash meta = startedBy n capacity flash (startOf false capacity 0 flash meta .meta)
 
 abbrev pub storyOfRow : ℕ → ℕ → Row → Story
 storyOfRow cap page r =

@@ -40,7 +40,7 @@ refuses κs a o o' p q i = (refusal-apart (o .0) (o' .0) (plain p q) i, o .1)
 pub check-boot-state : Determined device_boot.core.check_boot_state.ended device_boot.core.check_boot_state.Reads.Post
 check-boot-state κs a o o' p q i =
     let e = plain p q in
-    (mode-apart (o .0) (o' .0) (λ j. e j .mode) i, (tt, (tt, (tt, (e i .meta, tt)))))
+    (mode-apart (o .0) (o' .0) (λ j. e j .mode) i, (tt, (tt, (tt, (tt, (e i .meta, tt))))))
 
 pub new-state : Determined device_start.new_state.ended device_start.new_state.Reads.Post
 new-state κs a o o' p q i = (plain p q i, o .1)
@@ -144,4 +144,4 @@ feed-on κs a o o' p q i =
 pub byte-on : Determined «device_in_place».byte_on.ended «device_in_place».byte_on.Reads.Post
 byte-on κs a o o' p q i =
     let e = plain p q in
-    (e i .done, (tt, (tt, (tt, (tt, (e i .bytes, (tt, (tt, (tt, (tt, tt))))))))))
+    (e i .done, (tt, (tt, (tt, (tt, (tt, (e i .bytes, (tt, (tt, (tt, (tt, tt)))))))))))

@@ -57,6 +57,9 @@ baud κs a o o' p q i = (plain p q i, o .1)
 pub position : Determined «store_record».boot_meta_store.position.ended «store_record».boot_meta_store.position.Reads.Post
 position κs a o o' p q i = (plain p q i, o .1)
 
+pub rewrite-steps : Determined «store_record».rewrite.rewrite_steps.ended «store_record».rewrite.rewrite_steps.Reads.Post
+rewrite-steps κs a o o' p q i = (tt, (plain p q i, (tt, (tt, tt))))
+
 pub set-row : Determined «store_record».boot_meta_store.set_row.ended «store_record».boot_meta_store.set_row.Reads.Post
 set-row κs a o o' p q i = (tt, (plain p q i, (tt, (tt, tt))))
 

@@ -3,9 +3,9 @@
 #include <string.h>
 #include "../include/tinyboot.h"
 
-/* erase size 0x180, capacity 0xC000, an id of three bytes, version 1.2.3, key 0xA1B2C3D4 */
+/* erase size 0x180, capacity 0xC000, an id of three bytes, version 1.2.3, key 0xA1B2C3D4, the careful start */
 static const uint8_t laid[TINYBOOT_SETUP_SIZE] = {0x80, 0x01, 0,    0,    0x00, 0xC0, 0, 0, 3, 0x5A, 0x01, 0xC3, 0, 0, 0,   0,
-                                                  0,    0,    0,    0,    0,    0,    0, 0, 0, 0x83, 0x08, 0xD4, 0xC3, 0xB2, 0xA1};
+                                                  0,    0,    0,    0,    0,    0,    0, 0, 0, 0x83, 0x08, 0xD4, 0xC3, 0xB2, 0xA1, 1};
 /* a reply of 14 bytes after 11 byte-times, 0x10203 bytes taken; silence for a Select without a match, 16 bytes taken */
 static const uint8_t answer[TINYBOOT_ANSWER_SIZE] = {2, 1, 14, 0, 11, 0, 0, 0, 0x03, 0x02, 0x01, 0, 0, 0, 0, 0};
 static const uint8_t silent[TINYBOOT_ANSWER_SIZE] = {1, 1, 0, 0, 0, 5, 0, 0, 16, 0, 0, 0, 0, 0, 0, 0};
@@ -24,6 +24,7 @@ int main(void)
     numbers.id[2] = 0xC3;
     numbers.version = TINYBOOT_PACK_VERSION(1, 2, 3);
     numbers.key = 0xA1B2C3D4;
+    numbers.start_kind = TINYBOOT_START_CAREFUL;
     memset(setup, 0xEE, sizeof setup);
     tinyboot_lay_setup(setup, &numbers);
     if (memcmp(setup, laid, sizeof laid) != 0) return 1;

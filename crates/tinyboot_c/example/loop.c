@@ -58,7 +58,7 @@ static uint8_t serve(uint8_t mode)
 int main(void)
 {
     const struct tinyboot_setup numbers = {
-        .erase_size = 128, .capacity = CAPACITY, .version = TINYBOOT_PACK_VERSION(1, 1, 0), .key = 0xA1B2C3D4};
+        .erase_size = 128, .capacity = CAPACITY, .version = TINYBOOT_PACK_VERSION(1, 1, 0), .key = 0xA1B2C3D4, .start_kind = TINYBOOT_START_PRESENT};
     if (tinyboot_state_size() != sizeof state) return 2; /* another header's archive */
     tinyboot_lay_setup(setup, &numbers);
     memset(flash, 0xFF, sizeof flash);

@@ -2,7 +2,7 @@
 //! rustc alone builds it (see `run`). It prints its answers in the words of `oracle/`, so that they can be compared with those of the Rust.
 
 // The sizes, numbers and modes of tinyboot.h.
-const SETUP_SIZE: usize = 31;
+const SETUP_SIZE: usize = 32;
 const STATE_SIZE: usize = 136;
 const META_SIZE: usize = 12;
 const REPLY_SIZE: usize = 64;

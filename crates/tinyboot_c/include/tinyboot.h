@@ -54,13 +54,13 @@ extern "C" {
 #endif
 
 /* The version of this interface. While the major one is 0, a change of a layout or a number raises the minor one. */
-#define TINYBOOT_VERSION 0x00000002
+#define TINYBOOT_VERSION 0x00000003
 #define TINYBOOT_VERSION_MAJOR (0xffff & (TINYBOOT_VERSION >> 16))
 #define TINYBOOT_VERSION_MINOR (0xffff & (TINYBOOT_VERSION >> 0))
 
 /* Buffers. How many bytes each has; their layouts stand below, numbers of several bytes with the low byte first. The flash has as many bytes as the capacity;
  * reply and answer may have more, and what is more is left alone. */
-#define TINYBOOT_SETUP_SIZE 31
+#define TINYBOOT_SETUP_SIZE 32
 #define TINYBOOT_STATE_SIZE 136
 #define TINYBOOT_META_SIZE 12
 #define TINYBOOT_REPLY_SIZE 64
@@ -114,6 +114,13 @@ enum tinyboot_reason {
 enum tinyboot_mode {
     TINYBOOT_HANDOFF = 0, /* the app */
     TINYBOOT_SERVICE = 1  /* the bootloader */
+};
+
+/* The kinds of start, a number of the setup. They differ where the record stores no checksum, as one has whose rewrite was cut after its erase: the present
+ * start then runs whatever has a first word that is not all ones, and the careful one stays. With the careful start an image whose CRC is 0xFFFF never runs. */
+enum tinyboot_start_kind {
+    TINYBOOT_START_PRESENT = 0,
+    TINYBOOT_START_CAREFUL = 1
 };
 
 /* The record, `meta`, which outlives a restart: where its numbers stand, low byte first, and what its state byte may be. */
@@ -185,9 +192,11 @@ struct tinyboot_setup {
     uint8_t id[TINYBOOT_ID_SIZE]; /* from its first byte on; what is past id_len counts for nothing */
     uint16_t version;             /* the bootloader's, any: TINYBOOT_PACK_VERSION */
     uint32_t key;                 /* that of the images it takes, any: docs/WIRE.md; TINYBOOT_NO_KEY */
+    uint8_t start_kind;           /* TINYBOOT_START_PRESENT or TINYBOOT_START_CAREFUL */
 };
 
-/* Lays them as the calls read them, TINYBOOT_SETUP_SIZE bytes: 0 erase size (4), 4 capacity (4), 8 id length, 9 id (16), 25 version (2), 27 key (4). */
+/* Lays them as the calls read them, TINYBOOT_SETUP_SIZE bytes: 0 erase size (4), 4 capacity (4), 8 id length, 9 id (16), 25 version (2), 27 key (4), 31 kind of
+ * start. */
 static inline void tinyboot_lay_setup(uint8_t *setup, const struct tinyboot_setup *numbers)
 {
     size_t i;
@@ -197,6 +206,7 @@ static inline void tinyboot_lay_setup(uint8_t *setup, const struct tinyboot_setu
     for (i = 0; i < TINYBOOT_ID_SIZE; i++) setup[9 + i] = numbers->id[i];
     tinyboot_put(setup + 25, 2, numbers->version);
     tinyboot_put(setup + 27, 4, numbers->key);
+    setup[31] = numbers->start_kind;
 }
 
 /* What an answer says, TINYBOOT_ANSWER_SIZE bytes: 0 number, 1 mode, 2 the reply's length (2), 4 the wait, 5 the reason of silence, 6 and 7 are 0, 8 how many bytes

@@ -32,11 +32,11 @@ module _ (setup state bytes flash meta reply answer : List ℕ) where
   abbrev whole : Calls.AfterFeed
   whole = Calls.cFed 52 64 setup state bytes flash meta reply answer
 
-  pub feed-no-setup : eqb (length setup) 31 ≡ false → kept 10 ≡ whole
+  pub feed-no-setup : eqb (length setup) 32 ≡ false → kept 10 ≡ whole
   unfolding Calls.cFed
   feed-no-setup h = simp h
 
-  module _ (h : eqb (length setup) 31 ≡ true) where
+  module _ (h : eqb (length setup) 32 ≡ true) where
     abbrev up : Bool
     up = setUp 64 (setupFrom setup)
 
@@ -84,11 +84,11 @@ module _ (setup state bytes flash meta reply answer : List ℕ) where
 
 -- a start: of a setup, or of none
 module _ (mode : ℕ) (setup state flash meta answer : List ℕ) where
-  pub start-no-setup : eqb (length setup) 31 ≡ false → startRefused 10 state meta answer ≡ Calls.cStarted 52 64 mode setup state flash meta answer
+  pub start-no-setup : eqb (length setup) 32 ≡ false → startRefused 10 state meta answer ≡ Calls.cStarted 52 64 mode setup state flash meta answer
   unfolding Calls.cStarted
   start-no-setup h = simp h
 
-  pub start-setup : eqb (length setup) 31 ≡ true → (x : AfterStart) → x ≡ startIn 52 64 mode (setupFrom setup) state flash meta answer →
+  pub start-setup : eqb (length setup) 32 ≡ true → (x : AfterStart) → x ≡ startIn 52 64 mode (setupFrom setup) state flash meta answer →
       x ≡ Calls.cStarted 52 64 mode setup state flash meta answer
   unfolding Calls.cStarted
   start-setup h x e = e ∙ (simp h)

@@ -53,14 +53,16 @@ module _ (f p : List ℕ) (lf : length f ≡ 64) (lp : length p ≡ 64) (n : Num
 abbrev pub OnByte : List ℕ → List ℕ → ℕ → ℕ → ℕ → ℕ → List ℕ → Bool → Type 0
 OnByte setup state b flash meta room after t =
     laidTo t after ≡
-    byteOn 52 64 (setupFrom setup .«erase_size») (setupFrom setup .capacity) (setupFrom setup .«id_len») (numbersFrom 52 64 state) state b flash meta room
+    byteOn 52 64 (setupFrom setup .«erase_size») (setupFrom setup .capacity) (setupFrom setup .«id_len») (setupFrom setup .«start_kind»)
+    (numbersFrom 52 64 state) state b flash meta room
 
 -- the numbers that the code read are those that stand there
-pub byte-known : (setup state : List ℕ) (b flash meta room : ℕ) (r : Bool) (after : List ℕ) (erase capacity idLen : ℕ) (n : Numbers) →
-    laidTo r after ≡ byteOn 52 64 erase capacity idLen n state b flash meta room →
-    erase ≡ lowFirst (part 0 4 setup) → capacity ≡ lowFirst (part 4 4 setup) → idLen ≡ getD setup 8 0 → n ≡ numbersFrom 52 64 state → (t : Bool) → r ≡ t →
+pub byte-known : (setup state : List ℕ) (b flash meta room : ℕ) (r : Bool) (after : List ℕ) (erase capacity idLen kind : ℕ) (n : Numbers) →
+    laidTo r after ≡ byteOn 52 64 erase capacity idLen kind n state b flash meta room →
+    erase ≡ lowFirst (part 0 4 setup) → capacity ≡ lowFirst (part 4 4 setup) → idLen ≡ getD setup 8 0 → kind ≡ getD setup 31 0 →
+    n ≡ numbersFrom 52 64 state → (t : Bool) → r ≡ t →
     OnByte setup state b flash meta room after t
-byte-known setup state b flash meta room r after erase capacity idLen n e ke kc ki kn t w = rw (w, ke, kc, ki, kn) at e
+byte-known setup state b flash meta room r after erase capacity idLen kind n e ke kc ki kk kn t w = rw (w, ke, kc, ki, kk, kn) at e
 
 -- the answer to it
 pub byte-answered : (said : Said) → toldBy said ≡ mute 0 → (result : ℕ) → result ≡ said .number → (state f m r answer laid : List ℕ) →

@@ -28,7 +28,7 @@ ghost use mathlib.Core.Bool.{true};
 
 // Where the bytes hold no state: the setup's numbers are tried before it.
 pub(crate) fn stateless(setup: &[u8]) -> u8
-    requires { ⌜ length (now setup) ≡ 31 ⌝ }
+    requires { ⌜ length (now setup) ≡ 32 ⌝ }
     ensures { λ r. ⌜ r ≡ stateless 64 (setupFrom (now (setup .entry))) ⌝ }
 {
     if set_up(setup_from(setup)) {
@@ -57,7 +57,7 @@ fn fed_byte(
     meta: usize,
     room: usize,
 ) -> bool
-    requires { ⌜ length (now setup) ≡ 31 ⌝ }
+    requires { ⌜ length (now setup) ≡ 32 ⌝ }
     requires { ⌜ holdsState 52 64 (now state) ≡ true ⌝ }
     ensures { λ r. ⌜ ByteFed (now (setup .entry)) (now (state .entry)) (now (bytes .entry)) flash meta room (now (state .exit)) r ⌝ }
 {
@@ -68,10 +68,12 @@ fn fed_byte(
     let erase = four(setup, 0) as usize;
     let capacity = four(setup, 4) as usize;
     let id_len = wide(setup[8]);
+    let start_kind = setup[31];
     if byte_on(
         erase,
         capacity,
         id_len,
+        start_kind,
         n,
         state,
         bytes[0],
@@ -118,7 +120,7 @@ pub(crate) fn fed(
     reply: &mut [u8],
     answer: &mut [u8],
 ) -> u8
-    requires { ⌜ length (now setup) ≡ 31 ⌝ }
+    requires { ⌜ length (now setup) ≡ 32 ⌝ }
     requires { ⌜ holdsState 52 64 (now state) ≡ true ⌝ }
     requires { ⌜ 16 ≤ length (now answer) ⌝ }
     ensures { λ r. ⌜ afterFeed r (now (state .exit)) (now (flash .exit)) (now (meta .exit)) (now (reply .exit)) (now (answer .exit)) ≡

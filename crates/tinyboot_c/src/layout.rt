@@ -42,7 +42,7 @@ pub(crate) fn lay(s: &mut [u8], at: usize, new: &[u8])
 }
 
 fn id_from(setup: &[u8]) -> [u8; 16]
-    requires { ⌜ length (now setup) ≡ 31 ⌝ }
+    requires { ⌜ length (now setup) ≡ 32 ⌝ }
     ensures { λ r. ⌜ r ≡ part 9 16 (now (setup .entry)) ⌝ }
 {
     let mut id = [0u8; 16];
@@ -55,7 +55,7 @@ fn id_from(setup: &[u8]) -> [u8; 16]
 }
 
 pub(crate) fn setup_from(setup: &[u8]) -> Setup
-    requires { ⌜ length (now setup) ≡ 31 ⌝ }
+    requires { ⌜ length (now setup) ≡ 32 ⌝ }
     ensures { λ r. ⌜ r ≡ setupFrom (now (setup .entry)) ⌝ }
 {
     let id = id_from(setup);
@@ -66,5 +66,6 @@ pub(crate) fn setup_from(setup: &[u8]) -> Setup
         id_len: wide(setup[8]),
         version: two(setup, 25),
         key: four(setup, 27),
+        start_kind: setup[31],
     }
 }

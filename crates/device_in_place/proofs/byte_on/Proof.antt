@@ -16,19 +16,19 @@ slice-aggregate-lay-byte c =
 returns : tie.Need-returns
 returns c =
     let a = c .before .before .before .before .before .before .before .before .args in
-    byte-tried (a .erase) (a .capacity) (a .id-len) (a .n) (a .s .now) (a .b) (a .flash) (a .meta) (a .room) (c .before .before .before .before .if2 .taken)
+    byte-tried (a .erase) (a .capacity) (a .id-len) (a .start-kind) (a .n) (a .s .now) (a .b) (a .flash) (a .meta) (a .room) (c .before .before .before .before .if2 .taken)
     (sym (c .before .before .before .before .before .before .clear .ensures) ∙ c .before .before .before .before .before .if1 .taken) _
     (c .before .before .lay-byte .ensures)
 
 returns-2 : tie.Need-returns-2
 returns-2 c =
     let a = c .before .before .before .before .args in
-    byte-short (a .erase) (a .capacity) (a .id-len) (a .n) (a .s .now) (a .b) (a .flash) (a .meta) (a .room) (c .if2 .left)
+    byte-short (a .erase) (a .capacity) (a .id-len) (a .start-kind) (a .n) (a .s .now) (a .b) (a .flash) (a .meta) (a .room) (c .if2 .left)
 
 returns-3 : tie.Need-returns-3
 returns-3 c =
     let a = c .before .before .before .args in
-    byte-refused (a .erase) (a .capacity) (a .id-len) (a .n) (a .s .now) (a .b) (a .flash) (a .meta) (a .room) (sym (c .before .clear .ensures) ∙ c .if1 .left)
+    byte-refused (a .erase) (a .capacity) (a .id-len) (a .start-kind) (a .n) (a .s .now) (a .b) (a .flash) (a .meta) (a .room) (sym (c .before .clear .ensures) ∙ c .if1 .left)
 
 pub byte-on-spec : {M : Type 1} → statement M
 byte-on-spec =

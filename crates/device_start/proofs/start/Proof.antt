@@ -6,7 +6,7 @@ use Rattle.device_start.proofs.start.Tie as tie
 
 returns : tie.Need-returns
 returns c =
-    let at-if1 = c .before .before .before .before in
+    let at-if1 = c .before .before .before .before .before in
     let at-is-none = at-if1 .before in
     let at-refuses = at-is-none .before in
     let at-entry = at-refuses .before .before .before in

@@ -18,7 +18,7 @@ returns c =
 
 setup-from-requires : tie.Need-setup-from-requires
 setup-from-requires c κs =
-    eqb-true _ 31 (sym (c .before .before .before .before .before .holds-setup .ensures) ∙ not-false _ (c .before .before .before .before .if1 .left))
+    eqb-true _ 32 (sym (c .before .before .before .before .before .holds-setup .ensures) ∙ not-false _ (c .before .before .before .before .if1 .left))
 
 unanswered-requires : tie.Need-unanswered-requires
 unanswered-requires c κs =
@@ -45,7 +45,7 @@ fed-requires c κs =
     let at-holds-state = at-if2 .before in
     let at-if1 = at-holds-state .before .before in
     let at-holds-setup = at-if1 .before in (
-      eqb-true _ 31 (sym (at-holds-setup .holds-setup .ensures) ∙ not-false _ (at-if1 .if1 .left)),
+      eqb-true _ 32 (sym (at-holds-setup .holds-setup .ensures) ∙ not-false _ (at-if1 .if1 .left)),
       ((sym (at-holds-state .holds-state .ensures) ∙ at-if2 .if2 .taken), at-if3 .if3 .left),
     )
 
@@ -66,7 +66,7 @@ returns-3 c =
 stateless-requires : tie.Need-stateless-requires
 stateless-requires c κs =
     let at-if1 = c .before .before .before .before in
-    eqb-true _ 31 (sym (at-if1 .before .holds-setup .ensures) ∙ not-false _ (at-if1 .if1 .left))
+    eqb-true _ 32 (sym (at-if1 .before .holds-setup .ensures) ∙ not-false _ (at-if1 .if1 .left))
 
 returns-4 : tie.Need-returns-4
 returns-4 c =

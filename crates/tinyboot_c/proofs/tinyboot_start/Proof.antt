@@ -15,7 +15,7 @@ returns c =
 
 setup-from-requires : tie.Need-setup-from-requires
 setup-from-requires c κs =
-    eqb-true _ 31 (sym (c .before .holds-setup .ensures) ∙ not-false _ (c .if1 .left))
+    eqb-true _ 32 (sym (c .before .holds-setup .ensures) ∙ not-false _ (c .if1 .left))
 
 returns-2 : tie.Need-returns-2
 returns-2 c =

@@ -35,15 +35,20 @@ returns-7 c = rw (c .before .match .keys7, c .byte-at4 .ensures)
 
 returns-8 : tie.Need-returns-8
 unfolding within
-returns-8 c =
+returns-8 c = rw (c .before .match .keys8, c .byte-at5 .ensures)
+
+returns-9 : tie.Need-returns-9
+unfolding within
+returns-9 c =
     simp (
-      ne-eqb (c .before .before .args .letter) 110 (c .match .rest .0 .0 .0 .0 .0 .0 .1),
-      ne-eqb (c .before .before .args .letter) 99 (c .match .rest .0 .0 .0 .0 .0 .1),
-      ne-eqb (c .before .before .args .letter) 109 (c .match .rest .0 .0 .0 .0 .1),
-      ne-eqb (c .before .before .args .letter) 102 (c .match .rest .0 .0 .0 .1),
-      ne-eqb (c .before .before .args .letter) 112 (c .match .rest .0 .0 .1),
-      ne-eqb (c .before .before .args .letter) 113 (c .match .rest .0 .1),
-      ne-eqb (c .before .before .args .letter) 98 (c .match .rest .1),
+      ne-eqb (c .before .before .args .letter) 110 (c .match .rest .0 .0 .0 .0 .0 .0 .0 .1),
+      ne-eqb (c .before .before .args .letter) 99 (c .match .rest .0 .0 .0 .0 .0 .0 .1),
+      ne-eqb (c .before .before .args .letter) 109 (c .match .rest .0 .0 .0 .0 .0 .1),
+      ne-eqb (c .before .before .args .letter) 102 (c .match .rest .0 .0 .0 .0 .1),
+      ne-eqb (c .before .before .args .letter) 112 (c .match .rest .0 .0 .0 .1),
+      ne-eqb (c .before .before .args .letter) 113 (c .match .rest .0 .0 .1),
+      ne-eqb (c .before .before .args .letter) 98 (c .match .rest .0 .1),
+      ne-eqb (c .before .before .args .letter) 106 (c .match .rest .1),
     )
 
 pub is-within-spec : {M : Type 1} → statement M
@@ -68,6 +73,7 @@ is-within-spec =
     (λ c κs. search needs)
     (λ c κs. search needs)
     (λ c κs. search needs)
+    (λ c κs. search needs)
     returns
     returns-2
     returns-3
@@ -75,4 +81,5 @@ is-within-spec =
     returns-5
     returns-6
     returns-7
-    returns-8)
+    returns-8
+    returns-9)

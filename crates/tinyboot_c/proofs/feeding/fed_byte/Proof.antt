@@ -15,20 +15,20 @@ numbers-from-requires c κs = let at-entry = c .before .before .before .before .
 
 -- the places before the call of `byte_on`
 abbrev at-numbers : tie.After-byte-on → tie.After-numbers-from
-at-numbers c = c .before .before .before .before .before .before .before
+at-numbers c = c .before .before .before .before .before .before .before .before
 
 abbrev at-entry : tie.After-byte-on → tie.Start
 at-entry c = at-numbers c .before .before .before .before .before .before
 
 -- what the call gave, by what stands in the setup's and the state's bytes
 known : (c : tie.After-byte-on) → let a = at-entry c .args in (t : Bool) → c .byte-on .result ≡ t →
-    OnByte (a .setup .now) (a .state .now) (getD (a .bytes .now) 0 0) (a .flash) (a .meta) (a .room) (c .byte-on .last .1 .1 .1 .1 .0) t
+    OnByte (a .setup .now) (a .state .now) (getD (a .bytes .now) 0 0) (a .flash) (a .meta) (a .room) (c .byte-on .last .1 .1 .1 .1 .1 .0) t
 known c =
-    let at-four2 = c .before .before .before .before .before in
+    let at-four2 = c .before .before .before .before .before .before in
     let a = at-entry c .args in
     byte-known (a .setup .now) (a .state .now) (getD (a .bytes .now) 0 0) (a .flash) (a .meta) (a .room) (c .byte-on .result)
-    (c .byte-on .last .1 .1 .1 .1 .0) _ _ _ _
-    (c .byte-on .ensures) (at-four2 .before .four .ensures) (at-four2 .four2 .ensures) (c .before .before .before .wide .ensures)
+    (c .byte-on .last .1 .1 .1 .1 .1 .0) _ _ _ _ _
+    (c .byte-on .ensures) (at-four2 .before .four .ensures) (at-four2 .four2 .ensures) (c .before .before .before .before .wide .ensures) refl
     (at-numbers c .numbers-from .ensures)
 
 byte : (c : tie.After-byte-on) → let a = at-entry c .args in (i : ℕ) → i < length (a .state .now) → getD (a .state .now) i 0 < 256
@@ -69,7 +69,7 @@ returns-3 : tie.Need-returns-3
 returns-3 c =
     let d = c .before .before .before in
     let a = at-entry d .args in
-    byte-kept _ _ _ _ (a .state .now) (getD (a .bytes .now) 0 0) (a .flash) (a .meta) (a .room) _ (known d false (c .if2 .left))
+    byte-kept _ _ _ _ _ (a .state .now) (getD (a .bytes .now) 0 0) (a .flash) (a .meta) (a .room) _ (known d false (c .if2 .left))
 
 pub fed-byte-spec : {M : Type 1} → statement M
 fed-byte-spec = tie.close
@@ -82,6 +82,7 @@ fed-byte-spec = tie.close
     (λ c. search needs)
     (λ c. search needs)
     (λ c κs. search needs)
+    (λ c. search needs)
     (λ c. search needs)
     (λ c κs. search needs)
     add-state

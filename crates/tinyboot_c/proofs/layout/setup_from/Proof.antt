@@ -5,13 +5,12 @@ use Rattle.tinyboot_c.proofs.layout.setup_from.Tie as tie
 
 returns : tie.Need-returns
 returns c = rw (
-  c .before .before .before .before .before .before .id-from .ensures,
-  c .before .before .before .before .before .four .ensures,
-  c .before
-      .before .before .before .four2 .ensures,
-  c .before .before .wide .ensures,
-  c .before .two .ensures,
-  c .four3 .ensures,
+  c .before .before .before .before .before .before .before .id-from .ensures,
+  c .before .before .before .before .before .before .four .ensures,
+  c .before .before .before .before .before .four2 .ensures,
+  c .before .before .before .wide .ensures,
+  c .before .before .two .ensures,
+  c .before .four3 .ensures,
 ) refl
 
 pub setup-from-spec : {M : Type 1} → statement M
@@ -27,4 +26,5 @@ setup-from-spec =
     (λ c κs. search needs)
     (λ c κs. search needs)
     (λ c κs. search needs)
+    (λ c. search needs)
     returns)
