@@ -4,7 +4,6 @@ use mathlib.Core.List.{List, [], _∷_, _++_}
 use Prim.Native.Nat.{ℕ, _≤_, _<_, _/_}
 use native.Mathlib.Nat.{mod-eq-of-lt}
 use lib.Bits.{and-le-l}
-use native.Mathlib.Omega.{arith}
 use lib.ListN.{length, set, length-set}
 use lib.Seq.{length-sets, set-getD}
 use Rattle.laws.specs.Low.{lowFirst, lowBytes}

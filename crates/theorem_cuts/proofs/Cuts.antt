@@ -1,14 +1,13 @@
 -- Cut anywhere, a rewrite leaves a record on which the careful start decides as the old one, stays, or decides as the new one.
 use Prim.Native.Nat.{ℕ, zero, suc, _<_}
-use mathlib.Core.Path.{_≡_, refl, sym, ap, _∙_}
+use mathlib.Core.Path.{_≡_, refl, ap}
 use mathlib.Core.List.{List, [], _∷_}
 use mathlib.Core.Bool.{Bool, true, false}
 use native.Mathlib.Omega.{arith}
-use lib.ListN.{length}
 use lib.Dec.{eqb}
 use Rattle.laws.specs.Pick.{pick}
 use Rattle.store_record.specs.State.{stateRead}
-use Rattle.store_record.specs.Record.{sizeOf, trialUsed}
+use Rattle.store_record.specs.Record.{trialUsed}
 use Rattle.store_record.specs.Cuts.{cutAfter}
 use Rattle.store_record.proofs.Whole.{Whole, cells, whole}
 use Rattle.store_record.proofs.Cuts.{cut-done}

@@ -1,21 +1,17 @@
 -- Of every request: what it makes of the record is the change that is said of it, and each cut of a rewrite is decided.
-use Prim.Native.Nat.{ℕ, _≤_, _<_, _+_}
-use mathlib.Core.Path.{_≡_, refl, sym, ap, subst, _∙_}
+use Prim.Native.Nat.{ℕ, _<_, _+_}
+use mathlib.Core.Path.{_≡_, refl, subst, _∙_}
 use mathlib.Core.List.{List}
 use mathlib.Core.Bool.{Bool, true, false, not, _&&_, _||_}
 use native.Mathlib.Omega.{arith}
-use lib.ListN.{length, take}
-use lib.Dec.{eqb, ltb, leb}
-use borrow.Author.Tests.{leb-true}
+use lib.ListN.{length}
+use lib.Dec.{eqb, ltb}
 use Rattle.laws.specs.Pick.{pick}
-use Rattle.laws.proofs.Bools.{and-both}
 use Rattle.wire_numbers.specs.Flags.{bitSet}
-use Rattle.wire_numbers.specs.Crc.{crcOf}
 use Rattle.store_flash.specs.Flash as flash
 use Rattle.store_record.specs.Record.{updating, validating, freshOf, rowOf, advanced, refreshed, rowSet}
 use Rattle.store_record.proofs.Record.{fresh-length, row-of-length}
 use Rattle.wire_frames.specs.Fields.{cmdOf, addrOf, flagsOf, Ok, AddrOutOfBounds, Unsupported, Incompatible}
-use Rattle.wire_info.specs.Info.{infoBytes}
 use Rattle.cmd_erase.specs.Erase.{rangeFits, readied, eraseOf, erasedTo, erasedBy, byteCountOf}
 use Rattle.cmd_write.specs.Write.{writeOf}
 use Rattle.cmd_verify.specs.Verify.{Verified, verifyOf, verifiedTo, recorded, keyFits}

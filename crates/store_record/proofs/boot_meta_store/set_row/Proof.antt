@@ -1,5 +1,5 @@
 -- What is kept is read, two bytes are changed, and the rewrite goes its four steps.
-use mathlib.Core.List.{List, [], _∷_}
+use mathlib.Core.List.{List}
 use Prim.Native.Nat.{ℕ}
 use Rattle.store_record.specs.Record.{rowOf}
 use Rattle.store_record.proofs.Cuts.{kept-cut}
