@@ -48,7 +48,8 @@ pub new-always : (cap page : ℕ) (s : Setup) (mode : ℕ) (flash meta : List �
     startedOf cap page s mode flash meta .state ≡ newState cap page (startedOf cap page s mode flash meta .state .numbers .closed)
 unfolding startedOf
 new-always cap page s mode flash meta =
-    go (eqb (startRefusal page s (length flash) (length meta)) 0) (startOf (careful s) (s .capacity) mode flash meta) (startRefusal page s (length flash) (length meta))
+    go (eqb (startRefusal page s (length flash) (length meta)) 0) (startOf (careful s) (s .capacity) mode flash meta)
+    (startRefusal page s (length flash) (length meta))
   where
     go : (t : Bool) (d : Decision) (n : ℕ) → pick t (decidedTo cap page d) (left cap page n 1 true meta) .state ≡
         newState cap page (pick t (decidedTo cap page d) (left cap page n 1 true meta) .state .numbers .closed)

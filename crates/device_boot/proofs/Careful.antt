@@ -32,8 +32,8 @@ module _ (careful : Bool) (capacity mode : ℕ) (flash meta : List ℕ) where
     where
       go : (asked u v none : Bool) →
           pick asked (stays meta)
-          (checkedOf careful capacity flash (pick u (clears false meta) (pick v (pick none (clears false meta) (clears true (trialUsed meta))) (clears true meta))))
-          .mode
+          (checkedOf careful capacity flash
+          (pick u (clears false meta) (pick v (pick none (clears false meta) (clears true (trialUsed meta))) (clears true meta)))) .mode
           ≡ 1
       go true u v none = refl
       go false true v none = refl

@@ -1,5 +1,5 @@
-// A rewrite of the record, step by step: what `write` of tinyboot's ch32/src/platform/boot_meta_store.rs (MIT OR Apache-2.0) asks of a chip; changed: the record
-// is a lent array of 12 bytes, and the rewrite can be cut after any of its steps.
+// Translated from tinyboot, ch32/src/platform/boot_meta_store.rs (MIT OR Apache-2.0), `write`; changed: the record is a lent array of 12 bytes, and the rewrite
+// can be cut after any of its steps.
 
 use store_flash::cells::lay;
 use store_flash::cells::put;

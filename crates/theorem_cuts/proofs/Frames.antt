@@ -20,7 +20,8 @@ use Rattle.device_state.specs.declared.Setup.{Setup}
 use Rattle.device_state.specs.State.{World, frameSet, metaSet}
 use Rattle.device_state.proofs.Limits.{set-up-limits}
 use Rattle.device_handler.specs.Handling.{handledOf, bare, loaded, crcLaid, afterInfo, afterErase, afterWrite, afterVerify, afterReset}
-use Rattle.theorem_cuts.specs.Frames.{Change, stays, steps, rewrites, eraseChange, verifyChange, resetChange, changeOf, changed, ChangesWhole, FramesDecided}
+use Rattle.theorem_cuts.specs.Frames.{Change, stays, steps, rewrites, eraseChange, verifyChange, resetChange, changeOf, changed}
+use Rattle.theorem_cuts.specs.Frames.{ChangesWhole, FramesDecided}
 use Rattle.theorem_cuts.proofs.Cuts.{cuts-decided}
 
 module _ (f cells meta : List ℕ) where
@@ -30,8 +31,8 @@ module _ (f cells meta : List ℕ) where
     where
       go : (r u v : Bool) →
           pick (not r) (erasedTo AddrOutOfBounds cells meta)
-          (erasedBy (flash.pagesErased page cells (addrOf f) (addrOf f + byteCountOf f)) (pick u meta (pick v (refreshed meta 0xFFFF 0x7F 0xFFFFFFFF) (advanced meta))))
-          .meta
+          (erasedBy (flash.pagesErased page cells (addrOf f) (addrOf f + byteCountOf f))
+          (pick u meta (pick v (refreshed meta 0xFFFF 0x7F 0xFFFFFFFF) (advanced meta)))) .meta
           ≡ changed (pick (not r) stays (pick u stays (pick v (rewrites (freshOf meta 0xFFFF 0x7F 0xFFFFFFFF)) steps))) meta
       go false u v = refl
       go true true v = refl

@@ -1,5 +1,5 @@
--- What becomes of the record in a request that is carried out, and flash and record at each of its cuts (02, E4). `cap` is the payload capacity, `page` the page
--- size.
+-- What becomes of the record in a request that is carried out, and flash and record at each of its cuts (02, E4). `cap` is the payload capacity, `page` the
+-- page size.
 use Prim.Native.Nat.{ℕ}
 use mathlib.Core.Path.{_≡_}
 use mathlib.Core.Bool.{true, not, _&&_, _||_}
@@ -52,6 +52,7 @@ changeBy cmd s w =
     if eqb cmd 4 then resetChange (w .state .frame) (w .meta) (resetOf (w .state .frame) (w .flash) (w .meta)) else
     stays
 
+-- rewrites that no request of the bootloader makes, such as an app's, have a change of their own beside this one
 abbrev pub changeOf : Setup → World → Change
 changeOf s w = changeBy (cmdOf (w .state .frame)) s w
 

@@ -16,7 +16,8 @@ slice-aggregate-lay-byte c =
 returns : tie.Need-returns
 returns c =
     let a = c .before .before .before .before .before .before .before .before .args in
-    byte-tried (a .erase) (a .capacity) (a .id-len) (a .start-kind) (a .n) (a .s .now) (a .b) (a .flash) (a .meta) (a .room) (c .before .before .before .before .if2 .taken)
+    byte-tried (a .erase) (a .capacity) (a .id-len) (a .start-kind) (a .n) (a .s .now) (a .b) (a .flash) (a .meta) (a .room)
+    (c .before .before .before .before .if2 .taken)
     (sym (c .before .before .before .before .before .before .clear .ensures) ∙ c .before .before .before .before .before .if1 .taken) _
     (c .before .before .lay-byte .ensures)
 
@@ -28,7 +29,8 @@ returns-2 c =
 returns-3 : tie.Need-returns-3
 returns-3 c =
     let a = c .before .before .before .args in
-    byte-refused (a .erase) (a .capacity) (a .id-len) (a .start-kind) (a .n) (a .s .now) (a .b) (a .flash) (a .meta) (a .room) (sym (c .before .clear .ensures) ∙ c .if1 .left)
+    byte-refused (a .erase) (a .capacity) (a .id-len) (a .start-kind) (a .n) (a .s .now) (a .b) (a .flash) (a .meta) (a .room)
+    (sym (c .before .clear .ensures) ∙ c .if1 .left)
 
 pub byte-on-spec : {M : Type 1} → statement M
 byte-on-spec =

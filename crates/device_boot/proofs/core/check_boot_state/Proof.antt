@@ -36,7 +36,8 @@ returns-4 c =
     let at-entry = at-enum-told2 .before .before .before .before in
     let a = at-entry .args in
     let l = c .before .before .before .cleared in
-    rw (at-enum-told2 .enum-told2 .given .1) (start-stays (a .careful) (a .capacity) (a .flash .now) (a .meta .now) (l .result) (l .last .0) (l .ensures) (c .if1 .left))
+    rw (at-enum-told2 .enum-told2 .given .1)
+    (start-stays (a .careful) (a .capacity) (a .flash .now) (a .meta .now) (l .result) (l .last .0) (l .ensures) (c .if1 .left))
 
 pub check-boot-state-spec : {M : Type 1} → statement M
 check-boot-state-spec =
