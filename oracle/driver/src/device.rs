@@ -100,6 +100,13 @@ fn start<S: Storage + Default, I: Address>(mode: RunMode) -> Result<RunMode, Lef
     }
 }
 
+/// Runs the careful start. The Rust has none: this is its own start over a
+/// storage that says no where the start asks for the sign of an app, and it
+/// asks for it in that one place. Neither erase size nor id decides a start.
+pub fn careful_start(mode: RunMode) -> Result<RunMode, Left> {
+    start::<NoSign, Plain>(mode)
+}
+
 /// Puts a stream to a new dispatcher. Some with place and mode of the reset
 /// that ended it.
 fn run<S: Storage + Default, I: Address>(
@@ -364,6 +371,49 @@ impl<const E: usize> Storage for Coarse<E> {
 
     fn app_present(&self) -> bool {
         self.0.app_present()
+    }
+}
+
+/// The Rust's storage without the sign of an app, for a careful start.
+#[derive(Default)]
+struct NoSign(Ch32Storage);
+
+impl ErrorType for NoSign {
+    type Error = StorageError;
+}
+
+impl ReadNorFlash for NoSign {
+    const READ_SIZE: usize = Ch32Storage::READ_SIZE;
+
+    fn read(&mut self, offset: u32, bytes: &mut [u8]) -> Result<(), StorageError> {
+        self.0.read(offset, bytes)
+    }
+
+    fn capacity(&self) -> usize {
+        self.0.capacity()
+    }
+}
+
+impl NorFlash for NoSign {
+    const WRITE_SIZE: usize = Ch32Storage::WRITE_SIZE;
+    const ERASE_SIZE: usize = Ch32Storage::ERASE_SIZE;
+
+    fn erase(&mut self, _: u32, _: u32) -> Result<(), StorageError> {
+        unreachable!("a start never erases")
+    }
+
+    fn write(&mut self, _: u32, _: &[u8]) -> Result<(), StorageError> {
+        unreachable!("a start never writes")
+    }
+}
+
+impl Storage for NoSign {
+    fn as_slice(&self) -> &[u8] {
+        self.0.as_slice()
+    }
+
+    fn app_present(&self) -> bool {
+        false
     }
 }
 

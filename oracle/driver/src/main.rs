@@ -144,10 +144,12 @@ impl Oracle {
                     flash::bytes()[*at..][..bytes.len()].copy_from_slice(bytes)
                 }
                 Step::Record(bytes) => flash::record()[..bytes.len()].copy_from_slice(bytes),
+                Step::Cut(steps, new) => cut(flash::record(), *steps, new),
                 Step::Data(at, bytes) => state.data[*at..][..bytes.len()].copy_from_slice(bytes),
                 Step::Text(text) => out!("{text}"),
                 Step::Start(mode) => {
-                    let mode = (device.start)(*mode)?;
+                    let start = if setup.careful { device::careful_start } else { device.start };
+                    let mode = start(*mode)?;
                     out!("start {}", name(mode));
                     handed_off = mode == tinyboot_core::traits::RunMode::HandOff;
                     state = new();
@@ -175,6 +177,16 @@ impl Oracle {
         out!("selected {}", state.selected as u8);
         out!("data {}", Hex(&state.data));
     }
+}
+
+/// The first steps of a rewrite: an erase, then a word of four bytes each. The
+/// Rust's own rewrite cannot be stopped half way.
+fn cut(record: &mut [u8], steps: usize, new: &[u8]) {
+    let Some(words) = steps.checked_sub(1) else {
+        return;
+    };
+    record.fill(0xFF);
+    record[..4 * words].copy_from_slice(&new[..4 * words]);
 }
 
 /// The Rust's `crc16`, a byte at a time: its own answers for single bytes
@@ -242,6 +254,22 @@ mod tests {
                 let here = crc << 8 ^ table.0[((crc >> 8) as u8 ^ b) as usize];
                 assert_eq!(here, crc16(crc, &[b]));
             }
+        }
+    }
+
+    #[test]
+    fn cuts() {
+        let (old, new): ([u8; 12], [u8; 12]) = ([9; 12], std::array::from_fn(|n| n as u8));
+        let words = [0x0302_0100u32, 0x0706_0504, 0x0B0A_0908, !0].map(u32::to_le_bytes);
+        let [one, two, three, blank] = words;
+        let wanted = [[blank, blank, blank], [one, blank, blank], [one, two, blank], [one, two, three]];
+        let mut record = old;
+        cut(&mut record, 0, &new);
+        assert_eq!(record, old);
+        for (steps, wanted) in wanted.iter().enumerate() {
+            let mut record = old;
+            cut(&mut record, steps + 1, &new);
+            assert_eq!(record, wanted.concat()[..]);
         }
     }
 

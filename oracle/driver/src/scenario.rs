@@ -16,6 +16,7 @@ pub struct Setup {
     pub id: [u8; 16],
     pub version: u16,
     pub key: u32,
+    pub careful: bool,
 }
 
 impl Setup {
@@ -28,21 +29,30 @@ impl Setup {
             id: [0; 16],
             version: 0,
             key: 0xFFFF_FFFF,
+            careful: false,
         }
     }
 
-    fn of(b: &[u8; 31]) -> Self {
+    /// Of 31 bytes, or of 32 with the kind of start.
+    fn of(b: &[u8]) -> Result<Self, String> {
+        let careful = match b.len() {
+            31 => false,
+            32 if b[31] < 2 => b[31] == 1,
+            32 => return Err("a kind of start is 00 or 01".into()),
+            _ => return Err("a setup has 31 or 32 bytes".into()),
+        };
         let long = |i: usize| u32::from_le_bytes([b[i], b[i + 1], b[i + 2], b[i + 3]]);
         let mut id = [0; 16];
         id.copy_from_slice(&b[9..25]);
-        Setup {
+        Ok(Setup {
             erase: long(0),
             capacity: long(4),
             id_len: b[8],
             id,
             version: u16::from_le_bytes([b[25], b[26]]),
             key: long(27),
-        }
+            careful,
+        })
     }
 }
 
@@ -56,6 +66,8 @@ pub struct Stream {
 pub enum Step {
     Flash(usize, Vec<u8>),
     Record(Vec<u8>),
+    /// So many steps of a rewrite to this record.
+    Cut(usize, [u8; RECORD]),
     Data(usize, Vec<u8>),
     Start(RunMode),
     Stream(Stream),
@@ -102,11 +114,12 @@ fn take(letter: u8, rest: &[u8], setup: &mut Setup, steps: &mut Vec<Step>) -> Re
         return Ok(());
     }
     let bytes = pairs(rest)?;
-    let in_stream = matches!(steps.last(), Some(Step::Stream(_)));
+    // A cut in a stream ends it: the plug is pulled.
+    let mut since_start = steps.iter().rev().take_while(|step| !matches!(step, Step::Start(_)));
+    let in_stream = since_start.any(|step| matches!(step, Step::Stream(_)));
     match letter {
         b's' => {
-            let b = bytes.as_slice().try_into();
-            *setup = Setup::of(b.map_err(|_| "a setup has 31 bytes".to_string())?);
+            *setup = Setup::of(&bytes)?;
             if setup.id_len > 16 {
                 return Err("an id has at most 16 bytes".into());
             }
@@ -136,6 +149,14 @@ fn take(letter: u8, rest: &[u8], setup: &mut Setup, steps: &mut Vec<Step>) -> Re
             }
             steps.push(Step::Record(bytes));
         }
+        b'j' => {
+            let (&cut, bytes) = bytes.split_first().ok_or("too few bytes")?;
+            let new = bytes.try_into().map_err(|_| "a record has 12 bytes")?;
+            if cut > 4 {
+                return Err("a rewrite has 4 steps".into());
+            }
+            steps.push(Step::Cut(cut as usize, new));
+        }
         b'q' => {
             let (&place, bytes) = bytes.split_first().ok_or("too few bytes")?;
             let at = (place as usize)
@@ -153,6 +174,7 @@ fn take(letter: u8, rest: &[u8], setup: &mut Setup, steps: &mut Vec<Step>) -> Re
         })),
         b'x' => match steps.last_mut() {
             Some(Step::Stream(s)) => s.bytes.extend_from_slice(&bytes),
+            _ if in_stream => return Err("after a cut in a stream a start comes first".into()),
             _ => steps.push(Step::Stream(Stream {
                 bytes,
                 texts: Vec::new(),
