@@ -8,6 +8,7 @@ from model import ADDRESS, BAUD, COMMAND, DATA, FLAGS, KEY_UNSET, LENGTH, POSITI
 COMMANDS = ("Info", "Erase", "Write", "Verify", "Reset", "Select")
 STATUSES = ("Request", "Ok", "WriteError", "CrcMismatch", "AddrOutOfBounds", "Unsupported", "PayloadOverflow", "Incompatible")
 MODES = ("hand-off", "Service")
+START_KINDS = ("present", "careful")
 
 
 def state_name(byte):
@@ -26,6 +27,8 @@ class Counted(model.Device):
         super().__init__(setup)
         self.seen = seen
         self.ended_in_aa = False
+        # The request whose rewrite was last cut, and after how many steps; no start or frame has come since.
+        self.was_cut = None
         self.of_setup()
 
     def note(self, group, *points):
@@ -38,8 +41,10 @@ class Counted(model.Device):
         """Which numbers of the setup are wrong; a limit's side where the others are right."""
         setup = self.setup
         wrong = {"erase size": not (setup.erase_size % 64 == 0 and 64 <= setup.erase_size <= 32768),
-                 "capacity": not 0 < setup.capacity <= 65536 or setup.erase_size != 0 and setup.capacity % setup.erase_size != 0, "id length": setup.id_length > 16}
-        for name, value in (("erase size", setup.erase_size), ("capacity", setup.capacity), ("id length", setup.id_length)):
+                 "capacity": not 0 < setup.capacity <= 65536 or setup.erase_size != 0 and setup.capacity % setup.erase_size != 0, "id length": setup.id_length > 16,
+                 "kind of start": setup.start_kind > 1}
+        self.kind_alone = [name for name, bad in wrong.items() if bad] == ["kind of start"]
+        for name, value in (("erase size", setup.erase_size), ("capacity", setup.capacity), ("id length", setup.id_length), ("kind of start", setup.start_kind)):
             if not any(bad for other, bad in wrong.items() if other != name):
                 self.note("setup", f"{name} {value}")
                 if name == "capacity" and setup.erase_size and setup.capacity % setup.erase_size and setup.capacity % 64 == 0:
@@ -61,7 +66,7 @@ class Counted(model.Device):
         found, setup = self.reasons(of_start), self.setup
         name = "start refused" if of_start else "refused"
         if len(found) == 1:
-            self.note(name, f"{found[0]} alone")
+            self.note(name, f"{found[0]} alone", *(["10 by the kind of start alone"] if self.kind_alone else []))
         for n, one in enumerate(found):
             self.note(name, *(f"{one} before {two}" for two in found[n + 1:]))
         if set(found) <= {12}:
@@ -121,6 +126,9 @@ class Counted(model.Device):
     def feed(self, piece):
         state = self.state
         open_before = not self.reasons(False)
+        if self.was_cut and open_before:
+            self.note("cut", "a frame behind it, and no start between")
+            self.was_cut = None
         if open_before:
             self.hunted(piece)
         result = super().feed(piece)
@@ -371,6 +379,21 @@ class Counted(model.Device):
             self.note("select", "selected by it" if match else "deselected by it")
         return result
 
+    # A rewrite that is cut
+
+    def cut(self, steps, new):
+        old, new = bytes(self.record[:12]), bytes(new)
+        request = "another"
+        if old[8:] == new[8:] and old[STATE] == model.UPDATING and new[:2] == b"\x3F\xFF":
+            request = "Verify"
+        elif old[8:] == new[8:] and old[STATE] == model.VALIDATING and new[:8] == b"\x7F" + b"\xFF" * 7:
+            request = "Erase"
+        elif old[:8] + old[10:] == new[:8] + new[10:] and old != new:
+            request = "Reset"
+        self.was_cut = request, steps
+        self.note("cut", f"{steps} steps", *(["over a position that a Reset stored"] if self.placed else []))
+        super().cut(steps, new)
+
     # Start
 
     def start(self, asked):
@@ -378,6 +401,10 @@ class Counted(model.Device):
         held = self.state.begun, self.state.next, self.state.selected
         result = super().start(asked)
         self.note("start", str(result[0]) if result[0] is not None else MODES[result[1]])
+        if self.was_cut and asked == 0 and result[0] is None:
+            request, steps = self.was_cut
+            self.note("cut", f"{request} after {steps}, {START_KINDS[self.setup.start_kind]} start: {'hand-off' if result[1] == 0 else 'stays'}")
+        self.was_cut = None
         if result[0] is None:
             self.note("start", *(name for name, was in (("over a frame begun", held[0]), ("over a run", held[1] is not None), ("over a selection", held[2])) if was))
         return result
@@ -385,21 +412,27 @@ class Counted(model.Device):
     def decision(self, asked):
         record, size, capacity, checksum = self.record, self.size(), self.setup.capacity, self.checksum()
         state, trials = state_name(record[STATE]), record[TRIALS]
+        group = "careful start" if self.setup.start_kind == model.CAREFUL else "start record"
         if checksum == model.NO_CHECKSUM:
             check = "no checksum, " + ("an app" if self.app_present() else "no app")
+            if self.app_present() and asked == 0 and record[STATE] in (0xFF, 0x3F):
+                names = {0: "0", capacity: "capacity", capacity + 1: "capacity + 1", 0xFFFFFFFF: "none"}
+                self.note(group, f"state {state}, no checksum, an app, size {names.get(size, 'elsewhere')}")
         elif size > capacity:
             check = "size above capacity"
         else:
             check = "checksum right" if model.crc(self.flash[:size]) == checksum else "checksum wrong"
             self.note("start", *(name for name, there in (("size capacity", size == capacity), ("size 0", size == 0)) if there))
-        self.note("start record", f"{MODES[asked]} asked, state {state}")
+        self.note(group, f"{MODES[asked]} asked, state {state}")
         if asked == 0 and record[STATE] != 0x7F:
-            self.note("start record", f"state {state}, {check}")
+            self.note(group, f"state {state}, {check}")
         if record[STATE] == 0x3F:
-            self.note("start record", f"{MODES[asked]} asked, Validating, trials {trials:02X}" if trials in (0xFF, 0xB0, 0x10, 0x01, 0) else "Validating, other trials")
+            self.note(group, f"{MODES[asked]} asked, Validating, trials {trials:02X}" if trials in (0xFF, 0xB0, 0x10, 0x01, 0) else "Validating, other trials")
         mode = super().decision(asked)
         if asked == 0:
-            self.note("start record", f"{check}: {'hand-off' if mode == 0 else 'stays'}")
+            self.note(group, f"{check}: {'hand-off' if mode == 0 else 'stays'}")
+            if record[TRIALS] != trials and mode == 1:
+                self.note(group, f"{check}: a trial used all the same")
         return mode
 
 
@@ -418,6 +451,13 @@ class Bench(model.Bench):
     def line_s(self, data):
         super().line_s(data)
         self.device = Counted(self.device.setup, self.seen)
+        self.seen["setup", f"of {len(data)} bytes"] += 1
+
+    def line_j(self, data):
+        fault = super().line_j(data)
+        if fault is None:
+            self.seen["cut", f"record of {self.device.record_lent} lent"] += 1
+        return fault
 
     def done(self, letter, digits):
         fault = super().done(letter, digits)
@@ -484,8 +524,15 @@ def wanted():
         + ["hand-off asked, Validating, trials 10"]
         + ["no checksum, an app: hand-off", "no checksum, an app: stays", "no checksum, no app: stays", "checksum right: hand-off", "checksum right: stays", "checksum wrong: stays",
            "size above capacity: stays"],
-        "refused": [f"{one} alone" for one in range(10, 16)] + [f"{one} before {two}" for one in range(10, 16) for two in range(one + 1, 16)],
-        "start refused": ["10 alone", "12 alone", "13 alone", "10 before 12", "10 before 13", "12 before 13", "not by a room below 64", "not by a state that is none"],
+        "careful start": [f"hand-off asked, state {state}" for state in STATE_NAMES] + ["Service asked, state 3F"] + [f"state {state}, {check}" for state in ("FF", "3F") for check in CHECKS]
+        + [f"hand-off asked, Validating, trials {n}" for n in ("B0", "01", "00")]
+        + [f"state {state}, no checksum, an app, size {size}" for state in ("FF", "3F") for size in ("0", "capacity", "capacity + 1", "none", "elsewhere")]
+        + ["no checksum, an app: stays", "no checksum, no app: stays", "checksum right: hand-off", "checksum right: stays", "checksum wrong: stays", "size above capacity: stays",
+           "no checksum, an app: a trial used all the same"],
+        "cut": [f"{n} steps" for n in range(5)] + [f"record of {n} lent" for n in (0, 11, 12, 13, 16)] + ["a frame behind it, and no start between", "over a position that a Reset stored"]
+        + [f"{request} after {n}, {kind} start: {mode}" for request, kind, table in CUTS for n, modes in enumerate(table) for mode in modes],
+        "refused": ["10 by the kind of start alone"] + [f"{one} alone" for one in range(10, 16)] + [f"{one} before {two}" for one in range(10, 16) for two in range(one + 1, 16)],
+        "start refused": ["10 by the kind of start alone", "10 alone", "12 alone", "13 alone", "10 before 12", "10 before 13", "12 before 13", "not by a room below 64", "not by a state that is none"],
         "flash lent": ["capacity -1", "capacity +0", "capacity +1"],
         "record lent": [0, 11, 12, 13, 16],
         "room lent": [0, 63, 64, 65, 512],
@@ -493,9 +540,9 @@ def wanted():
         "frame begun": [*range(64), *(f"{name} alone wrong" for name in ("AA", "55", "command", "status", "length", "place")), "command 5", "command 6", "status 7", "status 8", "length 52",
                         "length 53", "at its end -1", "at its end +0", "bytes not yet read do not count"],
         "setup": [f"erase size {n}" for n in (0, 63, 64, 65, 32, 96, 32768, 32769, 32832)] + [f"capacity {n}" for n in (0, 63, 64, 65, 65535, 65536, 65537, 65600)]
-        + ["capacity a multiple of 64 alone"] + [f"id length {n}" for n in (0, 1, 16, 17, 255)],
-        "line": [*model.Bench.COUNTS, "t", "no such letter", "no digit", "half a byte", *(f"{letter}: too few bytes" for letter in "sncmfrpqb"),
-                 *(f"{letter}: too many bytes" for letter in "sncmfrpqbxodt"), "n: more than 65600", "c: more than 16", "m: more than 512", "f: past byte 65600",
+        + ["capacity a multiple of 64 alone"] + [f"id length {n}" for n in (0, 1, 16, 17, 255)] + [f"kind of start {n}" for n in (0, 1, 2, 3, 128, 255)] + ["of 31 bytes", "of 32 bytes"],
+        "line": [*model.Bench.COUNTS, "t", "no such letter", "no digit", "half a byte", *(f"{letter}: too few bytes" for letter in "sncmfrpqbj"),
+                 *(f"{letter}: too many bytes" for letter in "sncmfrpqbxodtj"), "j: more than 4", "n: more than 65600", "c: more than 16", "m: more than 512", "f: past byte 65600",
                  "p: no such field", "p: more than 1", "q: past byte 64", "b: no such mode"],
     }
     return {group: [str(point) for point in found] for group, found in points.items()}
@@ -511,13 +558,23 @@ SILENCES = ("1 alone", "2 alone", "3 alone", "4 alone", "5 alone",
 CHECKS = ("no checksum, an app", "no checksum, no app", "checksum right", "checksum wrong", "size above capacity")
 
 
+# What the starts behind a cut decide: after 0 to 4 steps, of each request that rewrites, each kind of start. The present one may hand off at 1, the careful one
+# never at 1 or 2.
+BOTH, ON, NOT = ("hand-off", "stays"), ("hand-off",), ("stays",)
+CUTS = (("Verify", "present", (NOT, BOTH, BOTH, ON, ON)), ("Verify", "careful", (NOT, NOT, NOT, BOTH, BOTH)), ("Erase", "present", (BOTH, ON, NOT, NOT, NOT)),
+        ("Erase", "careful", (BOTH, NOT, NOT, NOT, NOT)), ("Reset", "present", (BOTH, ON, BOTH, BOTH, BOTH)), ("Reset", "careful", (BOTH, NOT, NOT, BOTH, BOTH)))
+
+
 def missing(seen):
     return [f"{group}: {point}" for group, points in wanted().items() for point in points if not seen[group, point]]
 
 
 def impossible(seen):
-    """Reasons for silence that were seen at once, or in an order, as they cannot be."""
-    return [point for group, point in seen if group == "silence" and point not in wanted()["silence"]]
+    """Reasons for silence that were seen at once, or in an order, as they cannot be; careful starts that hand off without a checksum, or where a rewrite was cut
+    after one step or two."""
+    return ([point for group, point in seen if group == "silence" and point not in wanted()["silence"]]
+            + [point for group, point in seen if point.endswith(": hand-off") and (group == "careful start" and point.startswith("no checksum")
+                                                                                  or group == "cut" and (" after 1, careful" in point or " after 2, careful" in point))])
 
 
 def text(seen):
