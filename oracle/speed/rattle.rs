@@ -55,9 +55,9 @@ fn crc(bytes: &[u8]) -> u16 {
     unsafe { tinyboot_crc16(0xFFFF, bytes.as_ptr(), bytes.len()) }
 }
 
-/// Erase size 64, the whole capacity, this id, version 0, no key.
-fn setup(id: &[u8]) -> [u8; 31] {
-    let mut s = [0u8; 31];
+/// Erase size 64, the whole capacity, this id, version 0, no key, the present start.
+fn setup(id: &[u8]) -> [u8; 32] {
+    let mut s = [0u8; 32];
     s[0..4].copy_from_slice(&64u32.to_le_bytes());
     s[4..8].copy_from_slice(&(CAPACITY as u32).to_le_bytes());
     s[8] = id.len() as u8;
@@ -75,7 +75,7 @@ fn select(stream: &[u8], log: &mut Log) {
 }
 
 /// Feeds a stream to a new state. What is left of a piece after a frame's end is handed in again before the next piece.
-fn feed_all(setup: &[u8; 31], stream: &[u8], piece: usize, log: &mut Log) {
+fn feed_all(setup: &[u8; 32], stream: &[u8], piece: usize, log: &mut Log) {
     let mut state = [0u8; STATE];
     let mut room = [0u8; 64];
     let mut answer = [0u8; 16];
