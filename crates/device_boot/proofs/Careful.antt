@@ -13,12 +13,12 @@ use Rattle.device_boot.specs.Start.{validOf, clears, triedOf, clearedOf,
 use Rattle.device_boot.proofs.Starting.{valid-careful, valid-long}
 
 -- a trial used leaves checksum and size
-trial-checksum : (m : List ℕ) → checksumOf (trialUsed m) ≡ checksumOf m
+pub trial-checksum : (m : List ℕ) → checksumOf (trialUsed m) ≡ checksumOf m
 trial-checksum [] = refl
 trial-checksum (a ∷ []) = refl
 trial-checksum (a ∷ b ∷ m) = refl
 
-trial-size : (m : List ℕ) → sizeOf (trialUsed m) ≡ sizeOf m
+pub trial-size : (m : List ℕ) → sizeOf (trialUsed m) ≡ sizeOf m
 trial-size [] = refl
 trial-size (a ∷ []) = refl
 trial-size (a ∷ b ∷ m) = refl
@@ -59,9 +59,9 @@ careful-long capacity mode flash meta h =
     start-unfit true capacity mode flash meta (long-unfit capacity flash meta h) (long-unfit capacity flash (trialUsed meta) (rw (trial-size meta) h))
 
 -- the CRC of the image is the sign for none: with it stored the start stays, and with another it is not the image's
-no-last : (b : Bool) → b && false ≡ false
-no-last true = refl
-no-last false = refl
+pub and-false : (b : Bool) → b && false ≡ false
+and-false true = refl
+and-false false = refl
 
 ones-unfit : (capacity : ℕ) (flash meta : List ℕ) → crcOf (take (sizeOf meta) flash) ≡ 0xFFFF → validOf true capacity flash meta ≡ false
 unfolding validOf
@@ -71,7 +71,7 @@ ones-unfit capacity flash meta h = go (eqb (checksumOf meta) 0xFFFF) refl
     go true e = simp e
     go false e =
         let z : eqb (crcOf (take (sizeOf meta) flash)) (checksumOf meta) ≡ false = ne-eqb _ _ (λ k. eqb-false _ _ e (sym k ∙ h)) in
-        simp (e, z) (no-last (leb (sizeOf meta) capacity))
+        simp (e, z) (and-false (leb (sizeOf meta) capacity))
 
 pub ones-never : (capacity mode : ℕ) (flash meta : List ℕ) → crcOf (take (sizeOf meta) flash) ≡ 0xFFFF → startOf true capacity mode flash meta .mode ≡ 1
 ones-never capacity mode flash meta h =
