@@ -5,6 +5,8 @@ use c_layout::STATE_SIZE;
 use c_layout::lay_answer;
 use c_layout::new_bytes;
 use c_layout::refuse;
+use device_early::early;
+use device_early::outlook_number;
 use device_replies::Said;
 use device_replies::mode_number;
 use device_start::start;
@@ -23,6 +25,7 @@ ghost use lib.ListN.{length};
 ghost use Rattle.wire_numbers.specs.Names.{modeNumber};
 ghost use Rattle.laws.specs.Over.{over};
 ghost use Rattle.device_state.specs.Refusals.{refusalNumber};
+ghost use Rattle.device_early.specs.Early.{earlyOf};
 ghost use Rattle.c_layout.specs.Layout.{stateSize, answerSize, stateBytes, answerBytes};
 ghost use Rattle.device_start.specs.Starts.{newState, startRefusal, startedOf};
 ghost use Rattle.c_start.specs.Start.{afterNew, cNew, asked, startTold, orNoRoom, afterStart, startCalled, startIn};
@@ -54,6 +57,13 @@ fn mode_of(mode: u8) -> RunMode
         return RunMode::HandOff;
     }
     RunMode::Service
+}
+
+// Whether a start that asks for this mode will stay, as far as the record tells.
+pub fn early_in(mode: u8, setup: Setup, meta: &[u8]) -> u8
+    ensures { λ r. ⌜ r ≡ earlyOf 64 setup (asked mode) (now (meta .entry)) ⌝ }
+{
+    outlook_number(early(setup, mode_of(mode), meta))
 }
 
 // With no room for an answer: what a feed with no room for a reply says of a new state.

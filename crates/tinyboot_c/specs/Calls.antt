@@ -13,8 +13,9 @@ use Rattle.device_state.specs.State.{World}
 use Rattle.device_state.specs.Refusals.{setUp, refusalOf}
 use Rattle.device_replies.specs.Answers.{mute}
 use Rattle.device_feed.specs.Feed.{Called, fedOf}
+use Rattle.device_early.specs.Early.{earlyOf}
 use Rattle.c_layout.specs.Layout.{setupSize, answerSize, setupFrom, holdsState, stateFrom, stateBytes, answerBytes, answered}
-use Rattle.c_start.specs.Start.{AfterStart, startRefused, startIn}
+use Rattle.c_start.specs.Start.{AfterStart, asked, startRefused, startIn}
 
 -- a feed: its result, and each buffer after it
 pub record AfterFeed : Type 0 where
@@ -59,3 +60,7 @@ unfoldable pub cStarted : ℕ → ℕ → ℕ → List ℕ → List ℕ → List
 cStarted cap page mode setup state flash meta answer =
     if not (eqb (length setup) setupSize) then startRefused 10 state meta answer else
     startIn cap page mode (setupFrom setup) state flash meta answer
+
+-- an early answer, of the setup that the bytes hold (02, E11): it alters nothing, so that its result is all of it
+unfoldable pub cEarly : ℕ → ℕ → List ℕ → List ℕ → ℕ
+cEarly page mode setup meta = if not (eqb (length setup) setupSize) then 10 else earlyOf page (setupFrom setup) (asked mode) meta

@@ -9,6 +9,7 @@ use c_layout::STATE_SIZE;
 use c_layout::holds_setup;
 use c_layout::holds_state;
 use c_layout::refuse;
+use c_start::early_in;
 use c_start::new_in;
 use c_start::start_in;
 use wire_numbers::compat_key;
@@ -18,7 +19,7 @@ ghost use Rattle.wire_numbers.specs.Crc.{crcFrom};
 ghost use Rattle.wire_numbers.specs.Key.{keyOf};
 ghost use Rattle.c_layout.specs.Layout.{stateSize};
 ghost use Rattle.c_start.specs.Start.{afterNew, cNew, afterStart};
-ghost use Rattle.tinyboot_c.specs.Calls.{afterFeed, cFed, cStarted};
+ghost use Rattle.tinyboot_c.specs.Calls.{afterFeed, cFed, cStarted, cEarly};
 
 // How many bytes a state takes.
 #[no_mangle]
@@ -98,4 +99,15 @@ pub extern "C" fn tinyboot_start(
     }
     let s = setup_from(setup);
     start_in(mode, s, state, flash, meta, answer)
+}
+
+// Whether a start that asks for this mode will stay, from the record alone: nothing is written.
+#[no_mangle]
+pub extern "C" fn tinyboot_early(mode: u8, setup: &[u8], meta: &[u8]) -> u8
+    ensures { λ r. ⌜ r ≡ cEarly 64 mode (now (setup .entry)) (now (meta .entry)) ⌝ }
+{
+    if !holds_setup(setup) {
+        return 10;
+    }
+    early_in(mode, setup_from(setup), meta)
 }
