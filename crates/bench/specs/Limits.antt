@@ -8,7 +8,7 @@ use Rattle.laws.specs.Pick.{pick}
 use Rattle.bench.specs.Digits.{between}
 use Rattle.bench.specs.Numbers.{at1, at2, at4}
 
--- whether a line of this letter may have n bytes: in this order s n c m f r p q b x o d t j, and no other letter is one
+-- whether a line of this letter may have n bytes: in this order s n c m f r p q b x o d t j e, and no other letter is one
 unfoldable pub carried : ℕ → ℕ → Bool
 carried letter n =
     pick (eqb letter 115) (between 31 32 n)
@@ -25,13 +25,14 @@ carried letter n =
     (pick (eqb letter 100) (between 0 0 n)
     (pick (eqb letter 116) (between 0 4096 n)
     (pick (eqb letter 106) (between 13 13 n)
-    false)))))))))))))
+    (pick (eqb letter 101) (between 1 1 n)
+    false))))))))))))))
 
 -- a field of the state and its value: 0 to 2 take any number of four bytes, 3 and 4 are flags
 abbrev pub settable : ℕ → ℕ → Bool
 settable field value = pick (ltb field 3) true (leb field 4 && leb value 1)
 
--- whether a line's numbers are within their limits, in this order n c m f p q b j: the lengths of the buffers, what a field takes, the modes 0
+-- whether a line's numbers are within their limits, in this order n c m f p q b j e: the lengths of the buffers, what a field takes, the modes 0
 -- and 1, the steps of a rewrite
 unfoldable pub within : ℕ → List ℕ → Bool
 within letter l =
@@ -43,7 +44,8 @@ within letter l =
     (pick (eqb letter 113) (leb (at1 l 0 + (length l - 1)) 64)
     (pick (eqb letter 98) (leb (at1 l 0) 1)
     (pick (eqb letter 106) (leb (at1 l 0) 4)
-    true)))))))
+    (pick (eqb letter 101) (leb (at1 l 0) 1)
+    true))))))))
 
 -- both
 abbrev pub allowed : ℕ → List ℕ → Bool

@@ -59,6 +59,7 @@ pub(crate) fn count_of(letter: u8) -> Count
         b'd' => from_to(0, 0),
         b't' => from_to(0, LINE),
         b'j' => from_to(13, 13),
+        b'e' => from_to(1, 1),
         _ => from_to(1, 0),
     }
 }
@@ -119,6 +120,7 @@ fn is_within(letter: u8, bytes: &[u8]) -> bool
         b'q' => has_room(byte_at(bytes, 0) as usize, past(bytes.len(), 1), FRAME),
         b'b' => byte_at(bytes, 0) <= 1,
         b'j' => byte_at(bytes, 0) <= STEPS,
+        b'e' => byte_at(bytes, 0) <= 1,
         _ => true,
     }
 }

@@ -2,6 +2,7 @@
 mod cutting;
 mod digits;
 mod dump;
+mod early;
 mod feeding;
 mod input;
 mod limits;

@@ -1,6 +1,7 @@
 // The script: a line is read whole before it acts.
 use crate::cutting;
 use crate::dump;
+use crate::early;
 use crate::feeding;
 use crate::input;
 use crate::limits;
@@ -130,6 +131,7 @@ fn act(
         b'd' => dump::dump(bench, f, flash, room, out),
         b't' => say(bench, bytes, out),
         b'j' => cutting::cut(bench, bytes),
+        b'e' => early::tell(bench, byte_at(bytes, 0), out),
         _ => drive(bench, letter, bytes, f, page, flash, room, out),
     }
 }

@@ -31,7 +31,7 @@ fn number(out: &mut [u8], at: usize, letter: u8, bytes: &[u8]) -> usize {
         b'm' => more(out, at, limits::ROOM),
         b'f' => past(out, at, limits::FLASH),
         b'q' => past(out, at, FRAME),
-        b'b' => show::text(out, at, b"no such mode"),
+        b'b' | b'e' => show::text(out, at, b"no such mode"),
         b'j' => more(out, at, STEPS as usize),
         _ => field(out, at, byte_at(bytes, 0)),
     }

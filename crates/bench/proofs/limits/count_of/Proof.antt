@@ -76,30 +76,36 @@ returns-14 c n = rw (c .before .match .keys14, c .from-to14 .ensures .0, c .from
 
 returns-15 : tie.Need-returns-15
 unfolding carried
-returns-15 c n =
+returns-15 c n = rw (c .before .match .keys15, c .from-to15 .ensures .0, c .from-to15 .ensures .1)
+
+returns-16 : tie.Need-returns-16
+unfolding carried
+returns-16 c n =
     let letter = c .before .before .args .letter in
     let rest = c .before .match .rest in
-    rw (c .from-to15 .ensures .0, c .from-to15 .ensures .1, none n) (simp (
-      ne-eqb letter 115 (rest .0 .0 .0 .0 .0 .0 .0 .0 .0 .0 .0 .0 .0 .1),
-      ne-eqb letter 110 (rest .0 .0 .0 .0 .0 .0 .0 .0 .0 .0 .0 .0 .1),
-      ne-eqb letter 99 (rest .0 .0 .0 .0 .0 .0 .0 .0 .0 .0 .0 .1),
-      ne-eqb letter 109 (rest .0 .0 .0 .0 .0 .0 .0 .0 .0 .0 .1),
-      ne-eqb letter 102 (rest .0 .0 .0 .0 .0 .0 .0 .0 .0 .1),
-      ne-eqb letter 114 (rest .0 .0 .0 .0 .0 .0 .0 .0 .1),
-      ne-eqb letter 112 (rest .0 .0 .0 .0 .0 .0 .0 .1),
-      ne-eqb letter 113 (rest .0 .0 .0 .0 .0 .0 .1),
-      ne-eqb letter 98 (rest .0 .0 .0 .0 .0 .1),
-      ne-eqb letter 120 (rest .0 .0 .0 .0 .1),
-      ne-eqb letter 111 (rest .0 .0 .0 .1),
-      ne-eqb letter 100 (rest .0 .0 .1),
-      ne-eqb letter 116 (rest .0 .1),
-      ne-eqb letter 106 (rest .1),
+    rw (c .from-to16 .ensures .0, c .from-to16 .ensures .1, none n) (simp (
+      ne-eqb letter 115 (rest .0 .0 .0 .0 .0 .0 .0 .0 .0 .0 .0 .0 .0 .0 .1),
+      ne-eqb letter 110 (rest .0 .0 .0 .0 .0 .0 .0 .0 .0 .0 .0 .0 .0 .1),
+      ne-eqb letter 99 (rest .0 .0 .0 .0 .0 .0 .0 .0 .0 .0 .0 .0 .1),
+      ne-eqb letter 109 (rest .0 .0 .0 .0 .0 .0 .0 .0 .0 .0 .0 .1),
+      ne-eqb letter 102 (rest .0 .0 .0 .0 .0 .0 .0 .0 .0 .0 .1),
+      ne-eqb letter 114 (rest .0 .0 .0 .0 .0 .0 .0 .0 .0 .1),
+      ne-eqb letter 112 (rest .0 .0 .0 .0 .0 .0 .0 .0 .1),
+      ne-eqb letter 113 (rest .0 .0 .0 .0 .0 .0 .0 .1),
+      ne-eqb letter 98 (rest .0 .0 .0 .0 .0 .0 .1),
+      ne-eqb letter 120 (rest .0 .0 .0 .0 .0 .1),
+      ne-eqb letter 111 (rest .0 .0 .0 .0 .1),
+      ne-eqb letter 100 (rest .0 .0 .0 .1),
+      ne-eqb letter 116 (rest .0 .0 .1),
+      ne-eqb letter 106 (rest .0 .1),
+      ne-eqb letter 101 (rest .1),
     ))
 
 pub count-of-spec : {M : Type 1} → statement M
 count-of-spec =
     tie.close
     (tie.spec
+    (λ c κs. search needs)
     (λ c κs. search needs)
     (λ c κs. search needs)
     (λ c κs. search needs)
@@ -129,4 +135,5 @@ count-of-spec =
     returns-12
     returns-13
     returns-14
-    returns-15)
+    returns-15
+    returns-16)

@@ -39,16 +39,21 @@ returns-8 c = rw (c .before .match .keys8, c .byte-at5 .ensures)
 
 returns-9 : tie.Need-returns-9
 unfolding within
-returns-9 c =
+returns-9 c = rw (c .before .match .keys9, c .byte-at6 .ensures)
+
+returns-10 : tie.Need-returns-10
+unfolding within
+returns-10 c =
     simp (
-      ne-eqb (c .before .before .args .letter) 110 (c .match .rest .0 .0 .0 .0 .0 .0 .0 .1),
-      ne-eqb (c .before .before .args .letter) 99 (c .match .rest .0 .0 .0 .0 .0 .0 .1),
-      ne-eqb (c .before .before .args .letter) 109 (c .match .rest .0 .0 .0 .0 .0 .1),
-      ne-eqb (c .before .before .args .letter) 102 (c .match .rest .0 .0 .0 .0 .1),
-      ne-eqb (c .before .before .args .letter) 112 (c .match .rest .0 .0 .0 .1),
-      ne-eqb (c .before .before .args .letter) 113 (c .match .rest .0 .0 .1),
-      ne-eqb (c .before .before .args .letter) 98 (c .match .rest .0 .1),
-      ne-eqb (c .before .before .args .letter) 106 (c .match .rest .1),
+      ne-eqb (c .before .before .args .letter) 110 (c .match .rest .0 .0 .0 .0 .0 .0 .0 .0 .1),
+      ne-eqb (c .before .before .args .letter) 99 (c .match .rest .0 .0 .0 .0 .0 .0 .0 .1),
+      ne-eqb (c .before .before .args .letter) 109 (c .match .rest .0 .0 .0 .0 .0 .0 .1),
+      ne-eqb (c .before .before .args .letter) 102 (c .match .rest .0 .0 .0 .0 .0 .1),
+      ne-eqb (c .before .before .args .letter) 112 (c .match .rest .0 .0 .0 .0 .1),
+      ne-eqb (c .before .before .args .letter) 113 (c .match .rest .0 .0 .0 .1),
+      ne-eqb (c .before .before .args .letter) 98 (c .match .rest .0 .0 .1),
+      ne-eqb (c .before .before .args .letter) 106 (c .match .rest .0 .1),
+      ne-eqb (c .before .before .args .letter) 101 (c .match .rest .1),
     )
 
 pub is-within-spec : {M : Type 1} → statement M
@@ -74,6 +79,7 @@ is-within-spec =
     (λ c κs. search needs)
     (λ c κs. search needs)
     (λ c κs. search needs)
+    (λ c κs. search needs)
     returns
     returns-2
     returns-3
@@ -82,4 +88,5 @@ is-within-spec =
     returns-6
     returns-7
     returns-8
-    returns-9)
+    returns-9
+    returns-10)
