@@ -29,6 +29,8 @@ class Counted(model.Device):
         self.ended_in_aa = False
         # The request whose rewrite was last cut, and after how many steps; no start or frame has come since.
         self.was_cut = None
+        # The mode asked for and the early answer, where nothing has come since.
+        self.told = None
         self.of_setup()
 
     def note(self, group, *points):
@@ -126,6 +128,7 @@ class Counted(model.Device):
     def feed(self, piece):
         state = self.state
         open_before = not self.reasons(False)
+        self.told = None
         if self.was_cut and open_before:
             self.note("cut", "a frame behind it, and no start between")
             self.was_cut = None
@@ -379,6 +382,45 @@ class Counted(model.Device):
             self.note("select", "selected by it" if match else "deselected by it")
         return result
 
+    # Will it stay
+
+    def early(self, asked):
+        """Which clauses apply, each looked at by itself. What a clause's other side is stands among the points too."""
+        setup, record, size, checksum = self.setup, self.record, self.size(), self.checksum()
+        refused = [number for number, wrong in ((10, not setup.good), (13, self.record_lent != 12)) if wrong]
+        held = bytes(record), vars(self.state).copy(), bytes(self.state.frame), bytes(self.state.page)
+        result = super().early(asked)
+        if held != (bytes(record), vars(self.state), bytes(self.state.frame), bytes(self.state.page)):
+            raise AssertionError("the early answer has changed something")
+        if refused:
+            self.note("early", " before ".join(map(str, refused)) if len(refused) > 1 else f"{refused[0]} alone", *([f"record of {self.record_lent}"] if refused == [13] else []))
+            return result
+        clauses = [name for name, there in (
+            ("Service asked for", asked == 1), ("Updating", record[STATE] == 0x7F), ("a state byte that is none", record[STATE] not in (0xFF, 0x7F, 0x3F)),
+            ("Validating without trials", record[STATE] == 0x3F and record[TRIALS] == 0), ("a checksum and size 0", checksum != model.NO_CHECKSUM and size == 0),
+            ("a checksum and a size above capacity", checksum != model.NO_CHECKSUM and size > setup.capacity),
+            ("no checksum in the careful start", checksum == model.NO_CHECKSUM and setup.start_kind == model.CAREFUL)) if there]
+        outlook = model.EARLY_NAMES[result[1]]
+        self.note("early", outlook, f"{outlook} by {clauses[0]} alone" if len(clauses) == 1 else f"{outlook}, more than one clause" if clauses else f"{outlook}, no clause")
+        if not clauses:
+            kind = START_KINDS[setup.start_kind]
+            self.note("early", *(f"{outlook}: {name}" for name, there in (
+                (f"{kind}, Idle", record[STATE] == 0xFF), (f"{kind}, Validating", record[STATE] == 0x3F), ("Idle without trials", record[STATE] == 0xFF and record[TRIALS] == 0),
+                ("Validating with one trial", record[STATE] == 0x3F and record[TRIALS] == 1), ("size 0 and no checksum", size == 0), ("size capacity", size == setup.capacity),
+                ("size above capacity and no checksum", setup.capacity < size < 0xFFFFFFFF), ("size 1", size == 1), ("a checksum", checksum != model.NO_CHECKSUM)) if there))
+        if self.flash_lent != setup.capacity:
+            self.note("early", "not by the flash")
+        if self.room_lent < 64:
+            self.note("early", "not by the room")
+        if not self.state.well_formed(setup.capacity):
+            self.note("early", "not by the state")
+        if not self.state.open:
+            self.note("early", "closed")
+        if self.state.begun or self.state.next is not None or self.state.selected:
+            self.note("early", "in the middle of a frame, a run or a selection")
+        self.told = asked, outlook
+        return result
+
     # A rewrite that is cut
 
     def cut(self, steps, new):
@@ -390,7 +432,7 @@ class Counted(model.Device):
             request = "Erase"
         elif old[:8] + old[10:] == new[:8] + new[10:] and old != new:
             request = "Reset"
-        self.was_cut = request, steps
+        self.was_cut, self.told = (request, steps), None
         self.note("cut", f"{steps} steps", *(["over a position that a Reset stored"] if self.placed else []))
         super().cut(steps, new)
 
@@ -400,6 +442,9 @@ class Counted(model.Device):
         self.was_bad = not self.state.well_formed(self.setup.capacity)
         held = self.state.begun, self.state.next, self.state.selected
         result = super().start(asked)
+        if self.told and self.told[0] == asked and result[0] is None:
+            self.note("early", f"{self.told[1]}, and then {START_KINDS[self.setup.start_kind]}: {'hand-off' if result[1] == 0 else 'stays'}")
+        self.told = None
         self.note("start", str(result[0]) if result[0] is not None else MODES[result[1]])
         if self.was_cut and asked == 0 and result[0] is None:
             request, steps = self.was_cut
@@ -529,6 +574,11 @@ def wanted():
         + [f"state {state}, no checksum, an app, size {size}" for state in ("FF", "3F") for size in ("0", "capacity", "capacity + 1", "none", "elsewhere")]
         + ["no checksum, an app: stays", "no checksum, no app: stays", "checksum right: hand-off", "checksum right: stays", "checksum wrong: stays", "size above capacity: stays",
            "no checksum, an app: a trial used all the same"],
+        "early": ["10 alone", "13 alone", "10 before 13", *(f"record of {n}" for n in (0, 11, 13)), "stays", "reads on", "reads on, no clause"] + [f"stays by {clause} alone" for clause in CLAUSES]
+        + ["stays, more than one clause", *(f"reads on: {what}" for what in ("present, Idle", "present, Validating", "careful, Idle", "careful, Validating", "Idle without trials",
+           "Validating with one trial", "size 0 and no checksum", "size capacity", "size above capacity and no checksum", "size 1", "a checksum"))]
+        + ["not by the flash", "not by the room", "not by the state", "closed", "in the middle of a frame, a run or a selection"]
+        + [f"{outlook}, and then {kind}: {mode}" for kind in START_KINDS for outlook, mode in (("stays", "stays"), ("reads on", "stays"), ("reads on", "hand-off"))],
         "cut": [f"{n} steps" for n in range(5)] + [f"record of {n} lent" for n in (0, 11, 12, 13, 16)] + ["a frame behind it, and no start between", "over a position that a Reset stored"]
         + [f"{request} after {n}, {kind} start: {mode}" for request, kind, table in CUTS for n, modes in enumerate(table) for mode in modes],
         "refused": ["10 by the kind of start alone"] + [f"{one} alone" for one in range(10, 16)] + [f"{one} before {two}" for one in range(10, 16) for two in range(one + 1, 16)],
@@ -541,8 +591,8 @@ def wanted():
                         "length 53", "at its end -1", "at its end +0", "bytes not yet read do not count"],
         "setup": [f"erase size {n}" for n in (0, 63, 64, 65, 32, 96, 32768, 32769, 32832)] + [f"capacity {n}" for n in (0, 63, 64, 65, 65535, 65536, 65537, 65600)]
         + ["capacity a multiple of 64 alone"] + [f"id length {n}" for n in (0, 1, 16, 17, 255)] + [f"kind of start {n}" for n in (0, 1, 2, 3, 128, 255)] + ["of 31 bytes", "of 32 bytes"],
-        "line": [*model.Bench.COUNTS, "t", "no such letter", "no digit", "half a byte", *(f"{letter}: too few bytes" for letter in "sncmfrpqbj"),
-                 *(f"{letter}: too many bytes" for letter in "sncmfrpqbxodtj"), "j: more than 4", "n: more than 65600", "c: more than 16", "m: more than 512", "f: past byte 65600",
+        "line": [*model.Bench.COUNTS, "t", "no such letter", "no digit", "half a byte", *(f"{letter}: too few bytes" for letter in "sncmfrpqbje"),
+                 *(f"{letter}: too many bytes" for letter in "sncmfrpqbxodtje"), "j: more than 4", "e: no such mode", "n: more than 65600", "c: more than 16", "m: more than 512", "f: past byte 65600",
                  "p: no such field", "p: more than 1", "q: past byte 64", "b: no such mode"],
     }
     return {group: [str(point) for point in found] for group, found in points.items()}
@@ -558,6 +608,10 @@ SILENCES = ("1 alone", "2 alone", "3 alone", "4 alone", "5 alone",
 CHECKS = ("no checksum, an app", "no checksum, no app", "checksum right", "checksum wrong", "size above capacity")
 
 
+# For which an early answer says that a start stays.
+CLAUSES = ("Service asked for", "Updating", "a state byte that is none", "Validating without trials", "a checksum and size 0", "a checksum and a size above capacity",
+           "no checksum in the careful start")
+
 # What the starts behind a cut decide: after 0 to 4 steps, of each request that rewrites, each kind of start. The present one may hand off at 1, the careful one
 # never at 1 or 2.
 BOTH, ON, NOT = ("hand-off", "stays"), ("hand-off",), ("stays",)
@@ -571,10 +625,12 @@ def missing(seen):
 
 def impossible(seen):
     """Reasons for silence that were seen at once, or in an order, as they cannot be; careful starts that hand off without a checksum, or where a rewrite was cut
-    after one step or two."""
+    after one step or two; starts that hand off where the early answer said that they stay, or where it said so by no clause."""
     return ([point for group, point in seen if group == "silence" and point not in wanted()["silence"]]
             + [point for group, point in seen if point.endswith(": hand-off") and (group == "careful start" and point.startswith("no checksum")
-                                                                                  or group == "cut" and (" after 1, careful" in point or " after 2, careful" in point))])
+                                                                                  or group == "cut" and (" after 1, careful" in point or " after 2, careful" in point)
+                                                                                  or group == "early" and point.startswith("stays"))]
+            + [point for group, point in seen if group == "early" and (point == "stays, no clause" or point.startswith("reads on by") or point == "reads on, more than one clause")])
 
 
 def text(seen):
