@@ -13,6 +13,8 @@ use Rattle.store_record.specs.declared.traits.BootState.{BootState}
 use Rattle.store_record.specs.State.{stateByte}
 use Rattle.device_state.specs.declared.refusal.Refusal.{Refusal}
 use Rattle.device_state.specs.Refusals.{refusalNumber}
+use Rattle.device_early.specs.declared.Outlook.{Outlook}
+use Rattle.device_early.specs.Early.{outlookNumber}
 use Rattle.device_turns.specs.declared.Silence.{Silence}
 use Rattle.device_turns.specs.Turns.{whyNumber}
 use Rattle.device_replies.specs.declared.Answer.{Answer}
@@ -112,3 +114,15 @@ state-back BootState.Validating = refl
 
 pub state-apart : (a b : BootState) → stateByte a ≡ stateByte b → a ≡ b
 state-apart = apart stateByte stateFrom state-back
+
+abbrev outlookFrom : ℕ → Outlook
+outlookFrom n = pick (eqb n 0) Outlook.ReadsOn (pick (eqb n 1) Outlook.Stays (pick (eqb n 10) Outlook.BadSetup Outlook.BadRecord))
+
+outlook-back : (o : Outlook) → outlookFrom (outlookNumber o) ≡ o
+outlook-back Outlook.ReadsOn = refl
+outlook-back Outlook.Stays = refl
+outlook-back Outlook.BadSetup = refl
+outlook-back Outlook.BadRecord = refl
+
+pub outlook-apart : (a b : Outlook) → outlookNumber a ≡ outlookNumber b → a ≡ b
+outlook-apart = apart outlookNumber outlookFrom outlook-back

@@ -33,6 +33,9 @@ start-in κs a o o' p q i =
     let e = plain p q in
     (e i .result, (tt, (tt, (e i .state, (tt, (e i .meta, (e i .answer, tt)))))))
 
+pub early-in : Determined c_start.early_in.ended c_start.early_in.Reads.Post
+early-in κs a o o' p q i = (plain p q i, o .1)
+
 pub tinyboot-state-size : Determined tinyboot_c.tinyboot_state_size.ended tinyboot_c.tinyboot_state_size.Reads.Post
 tinyboot-state-size κs a o o' p q i = (plain p q i, o .1)
 
@@ -56,3 +59,6 @@ pub tinyboot-start : Determined tinyboot_c.tinyboot_start.ended tinyboot_c.tinyb
 tinyboot-start κs a o o' p q i =
     let e = plain p q in
     (e i .result, (tt, (tt, (e i .state, (tt, (e i .meta, (e i .answer, tt)))))))
+
+pub tinyboot-early : Determined tinyboot_c.tinyboot_early.ended tinyboot_c.tinyboot_early.Reads.Post
+tinyboot-early κs a o o' p q i = (plain p q i, o .1)

@@ -1,11 +1,12 @@
 -- The device's functions and calls.
 use Rattle.theorem_determined.specs.Determined.{Determined}
-use Rattle.theorem_determined.proofs.Apart.{plain, refusal-apart, answer-apart}
+use Rattle.theorem_determined.proofs.Apart.{plain, refusal-apart, answer-apart, outlook-apart}
 use Rattle.wire_numbers.proofs.Apart.{status-apart, mode-apart}
 use Rattle.wire_frames.proofs.Apart.{kind-apart}
 use Rattle.device_state.proofs as device_state
 use Rattle.device_boot.proofs as device_boot
 use Rattle.device_start.proofs as device_start
+use Rattle.device_early.proofs as device_early
 use Rattle.device_handler.proofs as device_handler
 use Rattle.device_turns.proofs as device_turns
 use Rattle.device_replies.proofs as device_replies
@@ -55,6 +56,12 @@ start κs a o o' p q i =
       },
       (tt, (tt, (tt, (e i .meta, tt)))),
     )
+
+pub outlook-number : Determined device_early.outlook_number.ended device_early.outlook_number.Reads.Post
+outlook-number κs a o o' p q i = (plain p q i, o .1)
+
+pub early : Determined device_early.early.ended device_early.early.Reads.Post
+early κs a o o' p q i = (outlook-apart (o .0) (o' .0) (plain p q) i, o .1)
 
 pub is-ok : Determined device_handler.is_ok.ended device_handler.is_ok.Reads.Post
 is-ok κs a o o' p q i = (plain p q i, o .1)

@@ -248,6 +248,14 @@ uint8_t tinyboot_feed(const uint8_t *setup, size_t setup_len, uint8_t *state, si
  * nothing is altered. */
 uint8_t tinyboot_new_state(uint8_t *state, size_t state_len);
 
+/* Whether a start that asks for this mode, as tinyboot_start has it, will stay, from the record alone and before any flash is read. It uses no trial and alters
+ * nothing. Refusals: TINYBOOT_BAD_SETUP, then TINYBOOT_BAD_RECORD. */
+enum tinyboot_outlook {
+    TINYBOOT_READS_ON = 0, /* the start reads the flash, and may stay after all */
+    TINYBOOT_STAYS = 1     /* the start stays in Service, whatever the flash has */
+};
+uint8_t tinyboot_early(uint8_t mode, const uint8_t *setup, size_t setup_len, const uint8_t *meta, size_t meta_len);
+
 /* The CRC register after these bytes (CRC-16/IBM-3740), for hosts that make frames: begin with 0xFFFF, and pass the last result on for a message in parts. */
 uint16_t tinyboot_crc16(uint16_t crc, const uint8_t *bytes, size_t bytes_len);
 
