@@ -1,6 +1,6 @@
 -- The reply of an Info, part by part.
 use Prim.Native.Nat.{ℕ, _-_, _%_, _^_, _≤_, _<_}
-use mathlib.Core.Path.{_≡_, refl, ap₂}
+use mathlib.Core.Path.{_≡_, refl, ap, ap₂, _∙_}
 use mathlib.Core.List.{List, [], _∷_, _++_}
 use mathlib.Core.Bool.{Bool, true, false, _||_}
 use native.Mathlib.Omega.{arith}
@@ -12,7 +12,7 @@ use Rattle.laws.specs.Low.{lowFirst, lowBytes}
 use Rattle.laws.proofs.Low.{low-mod}
 use Rattle.wire_info.specs.Info.{infoLaidBy}
 use Rattle.store_record.specs.Record.{sizeOf, baudOf}
-use Rattle.cmd_info.specs.Info.{appVersion, infoOf, infoLaid}
+use Rattle.cmd_info.specs.Info.{appVersion, infoTold, infoOf, infoLaid}
 
 or-true : (b : Bool) → b || true ≡ true
 or-true true = refl
@@ -33,7 +33,7 @@ module _ (capacity : ℕ) (flash meta : List ℕ) (size : ℕ) (e : size ≡ siz
   version-there l h = rw (← e, le-ltb size 2 l, le-ltb capacity size h) refl
 
 -- the eighteen bytes: capacity and erase size are laid by their low bytes
-pub info-built : (capacity erase version key baud app : ℕ) (flash meta new : List ℕ) → app ≡ appVersion capacity flash meta → baud ≡ baudOf meta →
+pub info-built : (cap mode app capacity erase version key baud : ℕ) (meta new : List ℕ) → baud ≡ baudOf meta →
     new ≡
     infoLaidBy
     (record {
@@ -41,22 +41,29 @@ pub info-built : (capacity erase version key baud app : ℕ) (flash meta new : L
       «erase_size» = erase % 2 ^ 16;
       «boot_version» = version;
       «app_version» = app;
-      mode = 0;
+      mode = mode;
       «boot_baud» = baud;
       compat = key;
-      «max_payload» = 52;
+      «max_payload» = cap;
     }) →
-    new ≡ infoOf 52 capacity erase version key flash meta
-unfolding infoOf
-info-built capacity erase version key baud app flash meta new ea eb e =
-    rw (e, ea, eb)
+    new ≡ infoTold cap mode app capacity erase version key meta
+info-built cap mode app capacity erase version key baud meta new eb e =
+    rw (e, eb)
     (ap₂
-    (λ (c d : List ℕ).
-    c ++ (d ++ (lowBytes 2 version ++ (lowBytes 2 (appVersion capacity flash meta) ++ (0 ∷ baudOf meta ∷ (lowBytes 4 key ++ lowBytes 2 52))))))
+    (λ (c d : List ℕ). c ++ (d ++ (lowBytes 2 version ++ (lowBytes 2 app ++ (mode ∷ baudOf meta ∷ (lowBytes 4 key ++ lowBytes 2 cap))))))
     (low-mod 4 capacity)
     (low-mod 2 erase))
 
+-- the bootloader's, of the app's version
+pub info-told : (capacity erase version key app : ℕ) (flash meta f new : List ℕ) → app ≡ appVersion capacity flash meta →
+    new ≡ infoLaid f (infoTold 52 0 app capacity erase version key meta) → new ≡ infoLaid f (infoOf 52 capacity erase version key flash meta)
+unfolding infoOf
+info-told capacity erase version key app flash meta f new e k = k ∙ ap (λ (x : ℕ). infoLaid f (infoTold 52 0 x capacity erase version key meta)) e
+
 -- what a reply leaves of its frame, for who sends it
+pub told-length : (cap mode app capacity erase version key : ℕ) (meta : List ℕ) → length (infoTold cap mode app capacity erase version key meta) ≡ 18
+told-length cap mode app capacity erase version key meta = refl
+
 pub info-length : (cap capacity erase version key : ℕ) (flash meta : List ℕ) → length (infoOf cap capacity erase version key flash meta) ≡ 18
 unfolding infoOf
 info-length cap capacity erase version key flash meta = refl

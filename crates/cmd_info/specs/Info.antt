@@ -15,20 +15,24 @@ appVersion capacity flash meta =
     if ltb (sizeOf meta) 2 || ltb capacity (sizeOf meta) then 0xFFFF else
     lowFirst (getD flash (sizeOf meta - 2) 0xFF ∷ getD flash (sizeOf meta - 1) 0xFF ∷ [])
 
--- the reply's eighteen bytes, of the device's own numbers; the mode is 0
-unfoldable pub infoOf : ℕ → ℕ → ℕ → ℕ → ℕ → List ℕ → List ℕ → List ℕ
-infoOf cap capacity erase version key flash meta =
+-- the reply's eighteen bytes, of a mode, an app version, a device's own numbers and its record's baud
+abbrev pub infoTold : ℕ → ℕ → ℕ → ℕ → ℕ → ℕ → ℕ → List ℕ → List ℕ
+infoTold cap mode app capacity erase version key meta =
     infoLaidBy
     (record {
       capacity = capacity;
       «erase_size» = erase;
       «boot_version» = version;
-      «app_version» = appVersion capacity flash meta;
-      mode = 0;
+      «app_version» = app;
+      mode = mode;
       «boot_baud» = baudOf meta;
       compat = key;
       «max_payload» = cap;
     })
+
+-- the bootloader's: the mode is 0
+unfoldable pub infoOf : ℕ → ℕ → ℕ → ℕ → ℕ → List ℕ → List ℕ → List ℕ
+infoOf cap capacity erase version key flash meta = infoTold cap 0 (appVersion capacity flash meta) capacity erase version key meta
 
 -- the reply in a frame: over the data area, every other byte kept
 abbrev pub infoLaid : List ℕ → List ℕ → List ℕ

@@ -8,7 +8,7 @@ use wire_info::InfoData;
 use wire_numbers::le;
 ghost use mathlib.Core.Path.{_≡_};
 ghost use lib.ListN.{length};
-ghost use Rattle.cmd_info.specs.Info.{appVersion, infoOf, infoLaid};
+ghost use Rattle.cmd_info.specs.Info.{appVersion, infoTold, infoOf, infoLaid};
 
 // The mode: an app would answer another.
 const MODE: u8 = 0;
@@ -39,6 +39,35 @@ fn lay(f: &mut [u8], new: &[u8])
     }
 }
 
+// The reply to Info of a device of this payload capacity, mode and app version, in the frame's data area.
+pub fn tell(
+    payload: u16,
+    mode: u8,
+    app_version: u16,
+    capacity: usize,
+    erase_size: usize,
+    version: u16,
+    key: u32,
+    f: &mut FrameBytes,
+    meta: &[u8],
+)
+    ensures { λ r. ⌜ now (f .exit) ≡ infoLaid (now (f .entry))
+        (infoTold payload mode «app_version» capacity «erase_size» version key (now (meta .entry))) ⌝ }
+{
+    let info = InfoData {
+        capacity: (capacity % 0x1_0000_0000) as u32,
+        erase_size: (erase_size % 0x1_0000) as u16,
+        boot_version: version,
+        app_version: app_version,
+        mode: mode,
+        boot_baud: boot_meta_store::baud(meta),
+        compat: key,
+        max_payload: payload,
+    };
+    let new = info.to_bytes();
+    lay(f, &new);
+}
+
 pub fn cmd_info(
     capacity: usize,
     erase_size: usize,
@@ -51,16 +80,16 @@ pub fn cmd_info(
     ensures { λ r. ⌜ now (f .exit) ≡ infoLaid (now (f .entry))
         (infoOf 52 capacity «erase_size» version key (now (flash .entry)) (now (meta .entry))) ⌝ }
 {
-    let info = InfoData {
-        capacity: (capacity % 0x1_0000_0000) as u32,
-        erase_size: (erase_size % 0x1_0000) as u16,
-        boot_version: version,
-        app_version: app_version(capacity, flash, meta),
-        mode: MODE,
-        boot_baud: boot_meta_store::baud(meta),
-        compat: key,
-        max_payload: DEFAULT_PAYLOAD as u16,
-    };
-    let new = info.to_bytes();
-    lay(f, &new);
+    let app = app_version(capacity, flash, meta);
+    tell(
+        DEFAULT_PAYLOAD as u16,
+        MODE,
+        app,
+        capacity,
+        erase_size,
+        version,
+        key,
+        f,
+        meta,
+    );
 }

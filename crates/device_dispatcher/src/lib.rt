@@ -12,12 +12,12 @@ use wire_frames::frame::FrameBytes;
 use wire_frames::frame::Kind;
 use wire_numbers::Status;
 ghost use mathlib.Core.Path.{_≡_};
-ghost use lib.ListN.{length};
+ghost use lib.ListN.{length, take};
 ghost use Rattle.wire_numbers.specs.Names.{statusNumber};
 ghost use Rattle.wire_frames.specs.Reading.{kindStatus};
 ghost use Rattle.device_state.specs.State.{world, selectedSet, closedSet};
 ghost use Rattle.device_handler.specs.Inner.{handledTo};
-ghost use Rattle.device_dispatcher.specs.Dispatch.{good, idOf, doneOf, dispatchOf};
+ghost use Rattle.device_dispatcher.specs.Dispatch.{good, doneOf, dispatchOf};
 ghost use Rattle.device_dispatcher.specs.Inner.{endedTo};
 
 // What the end of a frame leaves beside what it is lent.
@@ -26,7 +26,8 @@ pub struct Dispatched {
     pub numbers: Numbers,
 }
 
-fn is_good(kind: Kind) -> bool
+// A good request.
+pub fn is_good(kind: Kind) -> bool
     ensures { λ r. ⌜ r ≡ good kind ⌝ }
 {
     match kind {
@@ -39,7 +40,7 @@ fn is_good(kind: Kind) -> bool
 }
 
 // The status that tells how a frame ended.
-fn status_of(kind: Kind) -> Status
+pub fn status_of(kind: Kind) -> Status
     ensures { λ r. ⌜ statusNumber r ≡ kindStatus kind ⌝ }
 {
     match kind {
@@ -52,11 +53,11 @@ fn status_of(kind: Kind) -> Status
 }
 
 // The id's length, as a frame has it; a length above 16 means all 16 bytes.
-fn id_len(setup: Setup) -> u16
-    ensures { λ r. ⌜ r ≡ length (idOf setup) ⌝ }
+pub fn id_len(id: [u8; 16], len: usize) -> u16
+    ensures { λ r. ⌜ r ≡ length (take len id) ⌝ }
 {
-    if setup.id_len < MAX_UID_LEN {
-        return setup.id_len as u16;
+    if len < MAX_UID_LEN {
+        return len as u16;
     }
     16
 }
@@ -92,7 +93,8 @@ fn done(
         doneOf 52 64 setup kind chosen (world (now (f .entry)) (now (page .entry)) n (now (flash .entry)) (now (meta .entry))) ⌝ }
 {
     if chosen {
-        return device_handler::loaded(id_len(setup), n);
+        let id = setup.id;
+        return device_handler::loaded(id_len(id, setup.id_len), n);
     }
     if is_good(kind) {
         return device_handler::handle(setup, f, page, n, flash, meta);

@@ -5,7 +5,7 @@ use Rattle.device_dispatcher.proofs.done.Statement.{statement}
 use Rattle.device_dispatcher.proofs.done.Tie as tie
 
 returns : tie.Need-returns
-returns c = rw (c .loaded .ensures, c .before .id-len .ensures, c .before .before .if1 .taken)
+returns c = rw (c .loaded .ensures, c .before .id-len .ensures, c .before .before .before .if1 .taken)
 
 returns-2 : tie.Need-returns-2
 unfolding obeyedOf
