@@ -20,12 +20,12 @@ use Rattle.device_feed.specs.Feed.{Called, holding, quietBy, endedBy, af
 use Rattle.device_feed.specs.Inner.{going, kindOf}
 
 -- a reading is no refusal: a frame goes on, or has ended
-said-ended : (cap : ℕ) (f : List ℕ) (n : ℕ) (o : Outcome) → going (outOf cap f n o .said) ≡ false →
+pub said-ended : (cap : ℕ) (f : List ℕ) (n : ℕ) (o : Outcome) → going (outOf cap f n o .said) ≡ false →
     outOf cap f n o .said ≡ ended (kindOf (outOf cap f n o .said))
 said-ended cap f n (Begun q) e = let z : _≡_ {A = ℕ} 0 1 = cc in absurd (omega arith)
 said-ended cap f n (Ended k q r) e = refl
 
-said-quiet : (x : Said) → going x ≡ true → x ≡ quiet
+pub said-quiet : (x : Said) → going x ≡ true → x ≡ quiet
 said-quiet quiet e = refl
 said-quiet (ended k) e = let z : _≡_ {A = ℕ} 0 1 = cc in absurd (omega arith)
 said-quiet noBeginning e = let z : _≡_ {A = ℕ} 0 1 = cc in absurd (omega arith)
@@ -62,7 +62,7 @@ pub record Allowed (cap : ℕ) (f : List ℕ) (n : Numbers) : Type 0 where
   pub unclosed : n .closed ≡ false
 
 -- a test that another number than 0 would answer went the one way
-passed-not : (t : Bool) (a k : ℕ) → pick (not t) (suc k) a ≡ 0 → (t ≡ true) × (a ≡ 0)
+pub passed-not : (t : Bool) (a k : ℕ) → pick (not t) (suc k) a ≡ 0 → (t ≡ true) × (a ≡ 0)
 passed-not true a k e = (refl, e)
 passed-not false a k e = absurd (omega arith)
 
