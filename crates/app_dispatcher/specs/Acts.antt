@@ -11,7 +11,6 @@ use Rattle.wire_frames.specs.Fields.{cmdOf, flagsOf, Ok, Unsupported}
 use Rattle.wire_frames.specs.Reading.{kindStatus}
 use Rattle.wire_info.specs.Info.{infoBytes}
 use Rattle.cmd_info.specs.Info.{infoTold, infoLaid}
-use Rattle.device_turns.specs.declared.Silence.{Silence}
 use Rattle.device_turns.specs.declared.Turn.{Turn}
 use Rattle.device_turns.specs.Turns.{whyNumber, Turned, turnOf}
 use Rattle.device_replies.specs.Answers.{Told, silence, restart}

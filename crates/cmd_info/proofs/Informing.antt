@@ -68,11 +68,11 @@ pub info-length : (cap capacity erase version key : ℕ) (flash meta : List ℕ)
 unfolding infoOf
 info-length cap capacity erase version key flash meta = refl
 
-module _ (f info : List ℕ) (l : length f ≡ 64) (n : length info ≡ 18) where
+module _ (f info : List ℕ) (l : 28 ≤ length f) (n : length info ≡ 18) where
   head-length : length (take 10 f) ≡ 10
   head-length = length-take-le 10 f (omega arith)
 
-  pub laid-length : length (infoLaid f info) ≡ 64
+  pub laid-length : length (infoLaid f info) ≡ length f
   laid-length = simp (length-append, head-length, n, length-drop) (omega arith)
 
   pub laid-head : take 10 (infoLaid f info) ≡ take 10 f

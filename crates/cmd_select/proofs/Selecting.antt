@@ -60,10 +60,6 @@ module _ (id f : List ℕ) (fits : 10 + length id ≤ length f) where
   pub rest-kept : (k : ℕ) → 10 + length id ≤ k → getD (copied id f) k 0 ≡ getD f k 0
   rest-kept k h = let e : 10 + length id + (k - (10 + length id)) ≡ k = omega arith in rw e at (rest-at (k - (10 + length id)))
 
--- of a frame of 64 bytes and an id of at most 16, 64 bytes are left
-pub select-length : (id f : List ℕ) → length id ≤ 16 → length f ≡ 64 → length (selectOf id f .bytes) ≡ 64
-select-length id f h l = rw bytes-copied (copied-length id f (omega arith) ∙ l)
-
 -- what each answer of the code says, from its contract
 module _ (id f g : List ℕ) where
   pub told-yes : (w : ℕ) → choiceOf (Yes w) g ≡ selectOf id f →

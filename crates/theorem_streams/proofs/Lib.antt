@@ -1,5 +1,6 @@
 pub mod Rest
 pub mod Stored
+pub mod Replies
 pub mod Owed
 pub mod Calls
 pub mod Cut

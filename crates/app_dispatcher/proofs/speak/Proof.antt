@@ -1,4 +1,3 @@
-use mathlib.Core.Path.{_∙_}
 use Rattle.app_state.specs.State.{world}
 use Rattle.app_dispatcher.proofs.Acting.{speak-reset, speak-reply}
 use borrow.Author.Needs.{needs}

@@ -1,0 +1,4 @@
+pub mod Keeping
+pub mod Owing
+pub mod Cut
+pub mod Rows
