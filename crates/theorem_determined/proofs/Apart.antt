@@ -2,6 +2,7 @@
 -- say.
 use Prim.Native.Nat.{ℕ}
 use mathlib.Core.Path.{_≡_, refl, ap, sym, _∙_}
+use native.Mathlib.Omega.{arith}
 use lib.Dec.{eqb}
 use Rattle.laws.specs.Pick.{pick}
 use Rattle.laws.proofs.Inverse.{apart}
@@ -11,6 +12,12 @@ use Rattle.wire_frames.specs.declared.frame.Stop.{Stop}
 use Rattle.wire_frames.specs.Stored.{Said, quiet, ended, noBeginning, saidOf}
 use Rattle.store_record.specs.declared.traits.BootState.{BootState}
 use Rattle.store_record.specs.State.{stateByte}
+use Rattle.wire_rates.proofs.Apart.{rate-apart}
+use Rattle.app_record.specs.declared.Stored.{Stored}
+use Rattle.app_record.specs.declared.RateRead.{RateRead}
+use Rattle.app_record.specs.declared.PositionRead.{PositionRead}
+use Rattle.app_record.specs.Changes.{storedNumber}
+use Rattle.app_record.specs.Reads.{rateTold, positionTold}
 use Rattle.device_state.specs.declared.refusal.Refusal.{Refusal}
 use Rattle.device_state.specs.Refusals.{refusalNumber}
 use Rattle.device_early.specs.declared.Outlook.{Outlook}
@@ -126,3 +133,27 @@ outlook-back Outlook.BadRecord = refl
 
 pub outlook-apart : (a b : Outlook) → outlookNumber a ≡ outlookNumber b → a ≡ b
 outlook-apart = apart outlookNumber outlookFrom outlook-back
+
+abbrev storedFrom : ℕ → Stored
+storedFrom n = pick (eqb n 0) Stored.Nothing (pick (eqb n 1) Stored.Written Stored.BadRecord)
+
+stored-back : (s : Stored) → storedFrom (storedNumber s) ≡ s
+stored-back Stored.Nothing = refl
+stored-back Stored.Written = refl
+stored-back Stored.BadRecord = refl
+
+pub stored-apart : (a b : Stored) → storedNumber a ≡ storedNumber b → a ≡ b
+stored-apart = apart storedNumber storedFrom stored-back
+
+-- what was read is told from what was not by the number, 0 or 13
+pub rate-read-apart : (a b : RateRead) → rateTold a ≡ rateTold b → a ≡ b
+rate-read-apart (RateRead.Rate x) (RateRead.Rate y) e = ap RateRead.Rate (rate-apart x y (ap (λ f. f .value) e))
+rate-read-apart (RateRead.Rate x) RateRead.BadRecord e = let z : _≡_ {A = ℕ} 0 13 = ap (λ f. f .number) e in absurd (omega arith)
+rate-read-apart RateRead.BadRecord (RateRead.Rate y) e = let z : _≡_ {A = ℕ} 13 0 = ap (λ f. f .number) e in absurd (omega arith)
+rate-read-apart RateRead.BadRecord RateRead.BadRecord e = refl
+
+pub position-read-apart : (a b : PositionRead) → positionTold a ≡ positionTold b → a ≡ b
+position-read-apart (PositionRead.Position x) (PositionRead.Position y) e = ap PositionRead.Position (ap (λ f. f .value) e)
+position-read-apart (PositionRead.Position x) PositionRead.BadRecord e = let z : _≡_ {A = ℕ} 0 13 = ap (λ f. f .number) e in absurd (omega arith)
+position-read-apart PositionRead.BadRecord (PositionRead.Position y) e = let z : _≡_ {A = ℕ} 13 0 = ap (λ f. f .number) e in absurd (omega arith)
+position-read-apart PositionRead.BadRecord PositionRead.BadRecord e = refl

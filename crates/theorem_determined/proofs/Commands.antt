@@ -10,6 +10,9 @@ use Rattle.cmd_verify.proofs as cmd_verify
 use Rattle.cmd_reset.proofs as cmd_reset
 use Rattle.cmd_select.proofs as cmd_select
 
+pub tell : Determined cmd_info.tell.ended cmd_info.tell.Reads.Post
+tell κs a o o' p q i = (tt, (tt, (tt, (tt, (tt, (tt, (tt, (tt, (plain p q i, (tt, tt))))))))))
+
 pub cmd-info : Determined cmd_info.cmd_info.ended cmd_info.cmd_info.Reads.Post
 cmd-info κs a o o' p q i = (tt, (tt, (tt, (tt, (tt, (plain p q i, (tt, (tt, tt))))))))
 

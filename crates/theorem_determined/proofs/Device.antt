@@ -108,6 +108,15 @@ reply κs a o o' p q i =
     let e = plain p q in
     (answer-apart (o .0) (o' .0) (λ j. e j .told) i, (tt, (tt, (tt, (tt, (e i .bytes, (e i .room, tt)))))))
 
+pub is-good : Determined device_dispatcher.is_good.ended device_dispatcher.is_good.Reads.Post
+is-good κs a o o' p q i = (plain p q i, o .1)
+
+pub status-of : Determined device_dispatcher.status_of.ended device_dispatcher.status_of.Reads.Post
+status-of κs a o o' p q i = (status-apart (o .0) (o' .0) (plain p q) i, o .1)
+
+pub id-len : Determined device_dispatcher.id_len.ended device_dispatcher.id_len.Reads.Post
+id-len κs a o o' p q i = (plain p q i, o .1)
+
 pub dispatch : Determined device_dispatcher.dispatch.ended device_dispatcher.dispatch.Reads.Post
 dispatch κs a o o' p q i =
     let e = plain p q in (

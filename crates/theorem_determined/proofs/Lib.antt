@@ -3,4 +3,5 @@ pub mod Wire
 pub mod Store
 pub mod Commands
 pub mod Device
+pub mod App
 pub mod C
