@@ -3,14 +3,17 @@ use Prim.Native.Nat.{ℕ}
 use mathlib.Core.Path.{_≡_, refl, ap, _∙_}
 use mathlib.Core.Bool.{Bool, true, false}
 use mathlib.Core.List.{List}
-use lib.ListN.{getD}
+use lib.ListN.{length, getD}
+use Rattle.laws.specs.Pick.{pick}
 use Rattle.wire_numbers.specs.Flags.{bitOf, bitSet}
 use Rattle.wire_frames.specs.declared.frame.Kind.{Kind}
 use Rattle.wire_frames.specs.Fields.{flagsOf}
+use Rattle.store_record.specs.Record.{positionOf}
 use Rattle.device_turns.specs.Turns.{Turned, turnOf}
 use Rattle.device_replies.specs.Answers.{restart}
 use Rattle.device_replies.specs.Reply.{Spoken, replyOf}
 use Rattle.app_record.specs.Changes.{leaves, baudStored}
+use Rattle.app_record.proofs.Changing.{baud-length, baud-position}
 use Rattle.app_state.specs.declared.AppSetup.{AppSetup}
 use Rattle.app_state.specs.State.{AppWorld, closedSet, metaSet, numbersSet}
 use Rattle.app_dispatcher.specs.Acts.{Replied, repliedOf, spokenTo, answeredOf, resets, rowKept, resetOf, ending, spokenOf, afterTurned, actOf}
@@ -24,6 +27,24 @@ module _ (f meta : List ℕ) (n : ℕ) (k : n ≡ flagsOf f) (b : Bool) (e : b �
   pub row-left : b ≡ false → meta ≡ rowKept f meta
   unfolding rowKept
   row-left w = simp (← k, ← e, w)
+
+-- a Reset keeps the record's length, and its position
+module _ (f meta : List ℕ) where
+  pub row-length : length (rowKept f meta) ≡ length meta
+  unfolding rowKept
+  row-length = go (bitSet 1 (flagsOf f))
+    where
+      go : (t : Bool) → length (pick t (baudStored meta (getD f 4 0) .meta) meta) ≡ length meta
+      go true = baud-length meta (getD f 4 0)
+      go false = refl
+
+  pub row-position : positionOf (rowKept f meta) ≡ positionOf meta
+  unfolding rowKept
+  row-position = go (bitSet 1 (flagsOf f))
+    where
+      go : (t : Bool) → positionOf (pick t (baudStored meta (getD f 4 0) .meta) meta) ≡ positionOf meta
+      go true = baud-position meta (getD f 4 0)
+      go false = refl
 
 -- t says whether the frame resets
 module _ (cap : ℕ) (s : AppSetup) (kind : Kind) (chosen : Bool) (wait : ℕ) (w : AppWorld) (room : List ℕ) (t : Bool)

@@ -4,13 +4,12 @@ use mathlib.Core.Path.{_≡_, refl, ap, _∙_}
 use mathlib.Core.Bool.{Bool, true, false, not}
 use mathlib.Core.List.{List}
 use native.Mathlib.Omega.{arith}
-use lib.ListN.{length, getD, length-take}
+use lib.ListN.{length, length-take}
 use lib.Dec.{eqb}
 use Rattle.laws.specs.Pick.{pick}
 use Rattle.wire_frames.specs.declared.frame.Kind.{Kind}
-use Rattle.wire_frames.specs.Fields.{cmdOf, flagsOf, Ok, Unsupported}
+use Rattle.wire_frames.specs.Fields.{cmdOf, Ok, Unsupported}
 use Rattle.wire_frames.specs.Reading.{kindStatus}
-use Rattle.wire_numbers.specs.Flags.{bitSet}
 use Rattle.wire_info.specs.Info.{infoBytes}
 use Rattle.cmd_info.specs.Info.{infoLaid}
 use Rattle.cmd_info.proofs.Informing.{told-length, laid-length}
@@ -20,11 +19,10 @@ use Rattle.device_turns.specs.Turns.{whyNumber, Turned, turnOf}
 use Rattle.device_replies.specs.Answers.{silence}
 use Rattle.device_replies.specs.Reply.{replyOf}
 use Rattle.device_dispatcher.specs.Dispatch.{good}
-use Rattle.app_record.specs.Changes.{baudStored}
-use Rattle.app_record.proofs.Changing.{baud-length}
 use Rattle.app_state.specs.declared.AppSetup.{AppSetup}
 use Rattle.app_state.specs.State.{AppWorld, frameSet}
-use Rattle.app_dispatcher.specs.Acts.{Ending, ending, Replied, replied, appInfo, idOf, repliedOf, answeredOf, resets, rowKept, resetOf, spokenOf, turning, afterTurn, actOf}
+use Rattle.app_dispatcher.specs.Acts.{Ending, ending, Replied, replied, appInfo, idOf, repliedOf, answeredOf, resets, resetOf, spokenOf, turning, afterTurn, actOf}
+use Rattle.app_dispatcher.proofs.Acting.{row-length}
 use Rattle.theorem_streams.proofs.Replies.{Kept, sync-on, turned-kept, reply-kept, reply-same}
 use Rattle.theorem_streams.proofs.Owed as owed
 use Rattle.theorem_app.specs.Stream.{endingOf, rulesOf}
@@ -34,15 +32,6 @@ pub record Fit (cap : ℕ) (w : AppWorld) : Type 0 where
   pub kept : Kept cap (w .state .frame)
   pub none : w .state .numbers .got ≡ 0
   pub meta : length (w .meta) ≡ 12
-
--- the record's length is kept by a Reset
-row-length : (f meta : List ℕ) → length (rowKept f meta) ≡ length meta
-unfolding rowKept
-row-length f meta = go (bitSet 1 (flagsOf f))
-  where
-    go : (t : Bool) → length (pick t (baudStored meta (getD f 4 0) .meta) meta) ≡ length meta
-    go true = baud-length meta (getD f 4 0)
-    go false = refl
 
 -- Info's eighteen bytes have room in the data area
 module _ (cap : ℕ) (h : 18 ≤ cap) where
