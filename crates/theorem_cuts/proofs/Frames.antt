@@ -110,7 +110,7 @@ changes-whole cap page s w =
     go false false false false false = refl
 
 -- a new record is as long as the old one
-abbrev Like : List ℕ → Change → Type 0
+abbrev pub Like : List ℕ → Change → Type 0
 Like m stays = Unit {0}
 Like m steps = Unit {0}
 Like m (rewrites new) = length new ≡ length m

@@ -1,3 +1,4 @@
 pub mod Cuts
 pub mod Frames
 pub mod Rows
+pub mod App

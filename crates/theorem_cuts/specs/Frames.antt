@@ -52,7 +52,7 @@ changeBy cmd s w =
     if eqb cmd 4 then resetChange (w .state .frame) (w .meta) (resetOf (w .state .frame) (w .flash) (w .meta)) else
     stays
 
--- rewrites that no request of the bootloader makes, such as an app's, have a change of their own beside this one
+-- the running app's rewrites have changes of their own (App.antt)
 abbrev pub changeOf : Setup → World → Change
 changeOf s w = changeBy (cmdOf (w .state .frame)) s w
 
