@@ -15,8 +15,10 @@ use tinyboot_core::{Core, Platform};
 use tinyboot_protocol::frame::Frame;
 use tinyboot_protocol::{Cmd, DEFAULT_PAYLOAD, Status};
 
+use crate::app;
 use crate::out;
-use crate::scenario::{Setup, Stream};
+use crate::record::{self, Shared};
+use crate::scenario::{Mark, Setup, Stream};
 
 /// What a new state is made from and an old one leaves.
 pub struct State {
@@ -37,11 +39,13 @@ pub struct Left;
 
 pub type Start = fn(RunMode) -> Result<RunMode, Left>;
 pub type Run = fn(&Stream, &mut State) -> Result<Option<(usize, RunMode)>, Left>;
+pub type RunApp = fn(&Setup, u16, &Stream, &mut State) -> Result<Option<(usize, RunMode)>, Left>;
 
-/// The two calls, for one erase size and one id length.
+/// The three calls, for one erase size and one id length.
 pub struct Device {
     pub start: Start,
     pub run: Run,
+    pub run_app: RunApp,
 }
 
 /// The instance for a setup, if there is one.
@@ -77,6 +81,7 @@ fn of<S: Storage + Default, I: Address>() -> Device {
     Device {
         start: start::<S, I>,
         run: run::<S, I>,
+        run_app: app::run::<I>,
     }
 }
 
@@ -113,10 +118,11 @@ fn run<S: Storage + Default, I: Address>(
     stream: &Stream,
     state: &mut State,
 ) -> Result<Option<(usize, RunMode)>, Left> {
+    record::load();
     let mut platform = Platform::new(
         Wire::new(stream, false),
         S::default(),
-        BootMetaStore::default(),
+        Shared,
         Ctl(RunMode::Service),
     );
     let mut dispatcher =
@@ -144,21 +150,30 @@ fn run<S: Storage + Default, I: Address>(
     // SAFETY: every byte was stored above.
     state.data = unsafe { dispatcher.frame.data.raw };
     state.selected = dispatcher.addressing.selected();
+    after(ended, &mut dispatcher.platform.transport)
+}
+
+/// What a stream's end leaves to be said. Some with place and mode of the
+/// reset that ended it.
+pub fn after(
+    ended: Result<(), Box<dyn Any + Send>>,
+    wire: &mut Wire,
+) -> Result<Option<(usize, RunMode)>, Left> {
     let reset = match ended {
         Ok(()) => None,
         Err(payload) => match stopped(Err(payload))? {
-            Stop::Reset(mode) => Some((dispatcher.platform.transport.at, mode)),
-            Stop::HandOff | Stop::Listening => unreachable!("a dispatcher only resets"),
+            Stop::Reset(mode) => Some((wire.at, mode)),
+            Stop::HandOff | Stop::Listening => unreachable!("behind a start there are resets only"),
         },
     };
-    dispatcher.platform.transport.say_rest(reset);
+    wire.say_rest(reset);
     Ok(reset)
 }
 
 /// Why a frame was left without a reply, in the words of `bench`: what the
-/// Rust's own reader says of the bytes that `dispatch` took, and, of a good
+/// Rust's own reader says of the bytes that were taken, and, of a good
 /// frame, whether it is a Select and whether the device was selected.
-fn why_silent(bytes: &[u8], selected: bool) -> &'static str {
+pub fn why_silent(bytes: &[u8], selected: bool) -> &'static str {
     let mut frame = Frame::<DEFAULT_PAYLOAD>::default();
     let mut rest = Rest(bytes);
     let read = frame.read_request(&mut rest);
@@ -201,43 +216,54 @@ fn stopped(ended: Result<std::convert::Infallible, Box<dyn Any + Send>>) -> Resu
 }
 
 /// The transport: a stream of given bytes, and the replies to it.
-struct Wire<'a> {
+pub struct Wire<'a> {
     stream: &'a Stream,
-    at: usize,
-    texts_said: usize,
-    wait: u8,
+    pub at: usize,
+    marks_met: usize,
+    pub wait: u8,
     sent: Vec<u8>,
-    replied: bool,
+    pub replied: bool,
+    /// A read found nothing more.
+    pub ended: bool,
     unwind_at_end: bool,
 }
 
 impl<'a> Wire<'a> {
-    fn new(stream: &'a Stream, unwind_at_end: bool) -> Self {
+    pub fn new(stream: &'a Stream, unwind_at_end: bool) -> Self {
         Wire {
             stream,
             at: 0,
-            texts_said: 0,
+            marks_met: 0,
             wait: 0,
             sent: Vec::new(),
             replied: false,
+            ended: false,
             unwind_at_end,
         }
     }
 
-    /// What stands after the last byte read: the reset, then its texts.
+    /// What stands after the last byte read: the reset, then its marks.
     fn say_rest(&mut self, reset: Option<(usize, RunMode)>) {
         if let Some((at, mode)) = reset {
             out!("reset {at} {}", name(mode));
             out!("unread {}", self.stream.bytes.len() - at);
         }
-        for (_, text) in &self.stream.texts[self.texts_said..] {
-            out!("{text}");
+        for (_, mark) in &self.stream.marks[self.marks_met..] {
+            meet(mark);
         }
     }
 }
 
+/// A mark of a stream that has come to it.
+pub fn meet(mark: &Mark) {
+    match mark {
+        Mark::Text(text) => out!("{text}"),
+        Mark::Call(call) => app::call(*call),
+    }
+}
+
 #[derive(Debug)]
-struct Ended;
+pub struct Ended;
 
 impl embedded_io::Error for Ended {
     fn kind(&self) -> embedded_io::ErrorKind {
@@ -253,20 +279,21 @@ impl embedded_io::Read for Wire<'_> {
     // Failing at the end, instead of Ok(0), is what the sync scan leaves by.
     fn read(&mut self, buf: &mut [u8]) -> Result<usize, Ended> {
         let mut end = self.stream.bytes.len();
-        while let Some((at, text)) = self.stream.texts.get(self.texts_said) {
+        while let Some((at, mark)) = self.stream.marks.get(self.marks_met) {
             if *at > self.at {
-                // No read goes past a text, so that replies keep their side.
+                // No read goes past a mark, so that replies keep their side.
                 end = *at;
                 break;
             }
-            out!("{text}");
-            self.texts_said += 1;
+            meet(mark);
+            self.marks_met += 1;
         }
         let rest = &self.stream.bytes[self.at..end];
         if rest.is_empty() {
             if self.unwind_at_end {
                 resume_unwind(Box::new(Stop::Listening));
             }
+            self.ended = true;
             return Err(Ended);
         }
         let n = rest.len().min(buf.len());
@@ -299,7 +326,7 @@ impl Transport for Wire<'_> {
 }
 
 /// Boot control whose resets and hand-offs unwind.
-struct Ctl(RunMode);
+pub struct Ctl(pub RunMode);
 
 impl BootCtl for Ctl {
     fn run_mode(&self) -> RunMode {
@@ -418,7 +445,7 @@ impl Storage for NoSign {
 }
 
 /// An addressing by name, since the id's length is part of the Rust's type.
-trait Address {
+pub trait Address {
     type A: Addressing;
     fn address() -> Self::A;
 }

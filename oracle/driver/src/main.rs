@@ -4,8 +4,10 @@
 //! scenarios run in a child; where it dies, the parent notes that for the
 //! scenario at hand and starts a new child behind it.
 
+mod app;
 mod device;
 mod proc;
+mod record;
 mod scenario;
 
 use std::fmt;
@@ -13,10 +15,11 @@ use std::io::{self, BufRead, Write};
 
 use tinyboot_ch32::hal::flash;
 use tinyboot_ch32::tail;
+use tinyboot_core::traits::RunMode;
 use tinyboot_protocol::DEFAULT_PAYLOAD;
 use tinyboot_protocol::crc::{CRC_INIT, crc16};
 
-use device::{Left, State, name};
+use device::{Left, State, meet, name};
 use proc::Death;
 use scenario::{Scenario, Step, content};
 
@@ -137,7 +140,7 @@ impl Oracle {
             selected: setup.id_len == 0,
         };
         let mut state = new();
-        let mut handed_off = false;
+        let mut runs = Runs::Bootloader;
         for step in &scenario.steps {
             match step {
                 Step::Flash(at, bytes) => {
@@ -146,22 +149,38 @@ impl Oracle {
                 Step::Record(bytes) => flash::record()[..bytes.len()].copy_from_slice(bytes),
                 Step::Cut(steps, new) => cut(flash::record(), *steps, new),
                 Step::Data(at, bytes) => state.data[*at..][..bytes.len()].copy_from_slice(bytes),
-                Step::Text(text) => out!("{text}"),
+                Step::Mark(mark) => {
+                    record::load();
+                    meet(mark);
+                }
                 Step::Start(mode) => {
                     let start = if setup.careful { device::careful_start } else { device.start };
                     let mode = start(*mode)?;
                     out!("start {}", name(mode));
-                    handed_off = mode == tinyboot_core::traits::RunMode::HandOff;
+                    runs = match mode {
+                        RunMode::Service => Runs::Bootloader,
+                        RunMode::HandOff => Runs::Nobody,
+                    };
                     state = new();
                 }
-                Step::Stream(stream) if handed_off => {
-                    // The app runs: nobody listens.
-                    out!("unread {}", stream.bytes.len());
-                    stream.texts.iter().for_each(|(_, text)| out!("{text}"));
+                Step::App(version) => {
+                    out!("app");
+                    runs = Runs::App(*version);
+                    state = new();
                 }
-                Step::Stream(stream) => {
-                    (device.run)(stream, &mut state)?;
-                }
+                Step::Stream(stream) => match runs {
+                    Runs::Bootloader => {
+                        (device.run)(stream, &mut state)?;
+                    }
+                    Runs::App(version) => {
+                        (device.run_app)(setup, version, stream, &mut state)?;
+                    }
+                    Runs::Nobody => {
+                        out!("unread {}", stream.bytes.len());
+                        record::load();
+                        stream.marks.iter().for_each(|(_, mark)| meet(mark));
+                    }
+                },
             }
         }
         Ok(state)
@@ -176,6 +195,7 @@ impl Oracle {
         out!("record {}", Hex(flash::record()));
         out!("selected {}", state.selected as u8);
         out!("data {}", Hex(&state.data));
+        out!("rewrites {}", flash::rewrites());
     }
 }
 
@@ -187,6 +207,14 @@ fn cut(record: &mut [u8], steps: usize, new: &[u8]) {
     };
     record.fill(0xFF);
     record[..4 * words].copy_from_slice(&new[..4 * words]);
+}
+
+/// Who reads a stream.
+enum Runs {
+    Bootloader,
+    App(u16),
+    /// Handed off to an app that does not listen.
+    Nobody,
 }
 
 /// The Rust's `crc16`, a byte at a time: its own answers for single bytes

@@ -56,11 +56,26 @@ impl Setup {
     }
 }
 
-/// One dispatcher's bytes, with the texts to print between them.
+/// One dispatcher's or one app's bytes, with the marks between them.
 #[derive(Default)]
 pub struct Stream {
     pub bytes: Vec<u8>,
-    pub texts: Vec<(usize, String)>,
+    pub marks: Vec<(usize, Mark)>,
+}
+
+/// What stands between bytes and does not part them.
+pub enum Mark {
+    Text(String),
+    Call(Call),
+}
+
+/// A call of the app itself.
+#[derive(Clone, Copy)]
+pub enum Call {
+    Confirm,
+    SetBaud(BaudRate),
+    /// With the build's default.
+    Baud(BaudRate),
 }
 
 pub enum Step {
@@ -70,8 +85,10 @@ pub enum Step {
     Cut(usize, [u8; RECORD]),
     Data(usize, Vec<u8>),
     Start(RunMode),
+    /// The app runs, with this version.
+    App(u16),
     Stream(Stream),
-    Text(String),
+    Mark(Mark),
 }
 
 pub struct Scenario {
@@ -100,22 +117,24 @@ pub fn content(line: &[u8]) -> &[u8] {
 }
 
 fn take(letter: u8, rest: &[u8], setup: &mut Setup, steps: &mut Vec<Step>) -> Result<(), String> {
-    let text = match letter {
-        b't' => Some(String::from_utf8_lossy(rest.trim_ascii()).into_owned()),
-        b'e' | b'k' | b'v' | b'u' | b'h' | b'g' => Some(value(letter, &pairs(rest)?)?),
+    let mark = match letter {
+        b't' => Some(Mark::Text(String::from_utf8_lossy(rest.trim_ascii()).into_owned())),
+        b'A'..=b'Z' => Some(Mark::Text(value(letter, &pairs(rest)?)?)),
+        b'k' | b'g' | b'y' => Some(Mark::Call(call(letter, &pairs(rest)?)?)),
         _ => None,
     };
-    if let Some(text) = text {
+    if let Some(mark) = mark {
         match steps.last_mut() {
-            // Between two pieces of one stream the text must not part them.
-            Some(Step::Stream(s)) => s.texts.push((s.bytes.len(), text)),
-            _ => steps.push(Step::Text(text)),
+            // Between two pieces of one stream the mark must not part them.
+            Some(Step::Stream(s)) => s.marks.push((s.bytes.len(), mark)),
+            _ => steps.push(Step::Mark(mark)),
         }
         return Ok(());
     }
     let bytes = pairs(rest)?;
     // A cut in a stream ends it: the plug is pulled.
-    let mut since_start = steps.iter().rev().take_while(|step| !matches!(step, Step::Start(_)));
+    let begins = |step: &&Step| matches!(step, Step::Start(_) | Step::App(_));
+    let mut since_start = steps.iter().rev().take_while(|step| !begins(step));
     let in_stream = since_start.any(|step| matches!(step, Step::Stream(_)));
     match letter {
         b's' => {
@@ -172,12 +191,16 @@ fn take(letter: u8, rest: &[u8], setup: &mut Setup, steps: &mut Vec<Step>) -> Re
             [1] => RunMode::Service,
             _ => return Err("a mode is 00 or 01".into()),
         })),
+        b'a' => match bytes[..] {
+            [low, high] => steps.push(Step::App(u16::from_le_bytes([low, high]))),
+            _ => return Err("an app version has 2 bytes".into()),
+        },
         b'x' => match steps.last_mut() {
             Some(Step::Stream(s)) => s.bytes.extend_from_slice(&bytes),
-            _ if in_stream => return Err("after a cut in a stream a start comes first".into()),
+            _ if in_stream => return Err("after a cut in a stream a start or an app comes first".into()),
             _ => steps.push(Step::Stream(Stream {
                 bytes,
-                texts: Vec::new(),
+                marks: Vec::new(),
             })),
         },
         _ => return Err("no such line".into()),
@@ -185,28 +208,40 @@ fn take(letter: u8, rest: &[u8], setup: &mut Setup, steps: &mut Vec<Step>) -> Re
     Ok(())
 }
 
+/// A call of the app.
+fn call(letter: u8, bytes: &[u8]) -> Result<Call, String> {
+    let rate = |index| BaudRate::from_u8(index).ok_or("a rate's index is 00 to 0D".to_string());
+    Ok(match (letter, bytes) {
+        (b'k', []) => Call::Confirm,
+        (b'g', &[index]) => Call::SetBaud(rate(index)?),
+        (b'y', &[index]) => Call::Baud(rate(index)?),
+        _ => return Err("too few or too many bytes".into()),
+    })
+}
+
 /// The Rust's small functions, asked directly.
 fn value(letter: u8, bytes: &[u8]) -> Result<String, String> {
     Ok(match (letter, bytes) {
-        (b'e', _) => format!("crc {:04X}", crc16(CRC_INIT, bytes)),
-        (b'k', _) => {
+        (b'E', _) => format!("crc {:04X}", crc16(CRC_INIT, bytes)),
+        (b'K', _) => {
             let name = str::from_utf8(bytes).map_err(|_| "a name is UTF-8".to_string())?;
             format!("key {:08X}", compat_key(name))
         }
-        (b'v', &[major, minor, patch]) => format!("version {}", pack_version(major, minor, patch)),
-        (b'u', &[low, high]) => {
+        (b'V', &[major, minor, patch]) => format!("version {}", pack_version(major, minor, patch)),
+        (b'U', &[low, high]) => {
             let (major, minor, patch) = unpack_version(u16::from_le_bytes([low, high]));
             format!("parts {major} {minor} {patch}")
         }
-        (b'h', &[index]) => match BaudRate::from_u8(index) {
+        (b'H', &[index]) => match BaudRate::from_u8(index) {
             Some(rate) => format!("rate {}", rate.hz()),
             None => "rate none".into(),
         },
-        (b'g', &[a, b, c, d]) => match BaudRate::from_hz(u32::from_le_bytes([a, b, c, d])) {
+        (b'G', &[a, b, c, d]) => match BaudRate::from_hz(u32::from_le_bytes([a, b, c, d])) {
             Some(rate) => format!("index {}", rate as u8),
             None => "index none".into(),
         },
-        _ => return Err("too few or too many bytes".into()),
+        (b'G' | b'H' | b'U' | b'V', _) => return Err("too few or too many bytes".into()),
+        _ => return Err("no such line".into()),
     })
 }
 

@@ -19,6 +19,7 @@ pub const RECORD: usize = 12;
 static META: AtomicU32 = AtomicU32::new(0);
 static FLASH_END: AtomicU32 = AtomicU32::new(0);
 static CAPACITY: AtomicU32 = AtomicU32::new(0);
+static REWRITES: AtomicU32 = AtomicU32::new(0);
 
 // Linux. No crate of bindings: the build has no registry.
 unsafe extern "C" {
@@ -82,8 +83,15 @@ pub fn map() -> Result<(), &'static str> {
 pub fn renew(capacity: u32) {
     assert!(capacity != 0 && capacity <= MAX_CAPACITY && capacity.is_multiple_of(PAGE_SIZE as u32));
     CAPACITY.store(capacity, Relaxed);
+    REWRITES.store(0, Relaxed);
     bytes().fill(0xFF);
     page_of_record().fill(0xFF);
+}
+
+/// How often the record was rewritten since the chip is new: each rewrite
+/// erases it once, and nothing else does.
+pub fn rewrites() -> u32 {
+    REWRITES.load(Relaxed)
 }
 
 /// The app region's bytes. Not to be held across a call of the Rust, which
@@ -121,6 +129,7 @@ pub fn app_base() -> u32 {
 /// Erases the page at `addr`.
 pub fn erase(addr: u32) {
     if addr == meta_addr() {
+        REWRITES.fetch_add(1, Relaxed);
         page_of_record().fill(0xFF);
     } else {
         match page_at(addr) {
