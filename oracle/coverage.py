@@ -3,7 +3,7 @@ lines. A limit's side is counted where that limit alone decides. `wanted` has ev
 from collections import Counter
 
 import model
-from model import ADDRESS, BAUD, COMMAND, DATA, FLAGS, KEY_UNSET, LENGTH, POSITION, RECEIVED_CRC, SELECT, STATE, STATUS, TRIALS, low_first
+from model import ADDRESS, BAUD, CHECKSUM, COMMAND, DATA, FLAGS, KEY_UNSET, LENGTH, POSITION, RECEIVED_CRC, SELECT, SIZE, STATE, STATUS, TRIALS, low_first
 
 COMMANDS = ("Info", "Erase", "Write", "Verify", "Reset", "Select")
 STATUSES = ("Request", "Ok", "WriteError", "CrcMismatch", "AddrOutOfBounds", "Unsupported", "PayloadOverflow", "Incompatible")
@@ -34,6 +34,9 @@ class Counted(model.Device):
         self.of_setup()
 
     def note(self, group, *points):
+        """While the app runs a group is another."""
+        if self.app_version is not None:
+            group = "app " + group
         for point in points:
             self.seen[group, str(point)] += 1
 
@@ -54,10 +57,10 @@ class Counted(model.Device):
 
     def reasons(self, of_start):
         setup, state = self.setup, self.state
-        found = [10] if not setup.good else []
+        found = [10] if not (setup.good if self.app_version is None else setup.good_for_app) else []
         if not of_start and not state.well_formed(setup.capacity):
             found.append(11)
-        found += [12] if self.flash_lent != setup.capacity else []
+        found += [12] if self.flash_lent != setup.capacity and self.app_version is None else []
         found += [13] if self.record_lent != 12 else []
         if not of_start:
             found += [14] if self.room_lent < 64 else []
@@ -68,10 +71,12 @@ class Counted(model.Device):
         found, setup = self.reasons(of_start), self.setup
         name = "start refused" if of_start else "refused"
         if len(found) == 1:
-            self.note(name, f"{found[0]} alone", *(["10 by the kind of start alone"] if self.kind_alone else []))
+            self.note(name, f"{found[0]} alone", *(["10 by the kind of start alone"] if self.kind_alone and found == [10] else []))
+        if not found and self.kind_alone:
+            self.note("setup", "a kind of start above 1")
         for n, one in enumerate(found):
             self.note(name, *(f"{one} before {two}" for two in found[n + 1:]))
-        if set(found) <= {12}:
+        if set(found) <= ({12} if self.app_version is None else set()):
             self.note("flash lent", f"capacity {self.flash_lent - setup.capacity:+d}")
         if set(found) <= {13}:
             self.note("record lent", self.record_lent)
@@ -360,6 +365,85 @@ class Counted(model.Device):
             self.note("Reset", f"a position {'stored over another' if flags & 4 and position != was else 'stored again' if flags & 4 else 'kept'}" + (", that a Reset stored" if placed else ""))
         return result
 
+    # The app
+
+    def run_app(self, version):
+        held = self.state.begun, self.state.next, self.state.selected, not self.state.open
+        if self.app_version is None:
+            self.seen["app", "over the bootloader, " + ("closed" if held[3] else "open")] += 1
+        super().run_app(version)
+        self.note("begins", *(name for name, was in (("over a frame begun", held[0]), ("over a run", held[1] is not None), ("over a selection", held[2]), ("closed before", held[3])) if was))
+
+    def app_answer(self, command):
+        record, frame = self.record, self.state.frame
+        if command == model.INFO:
+            version, baud = self.app_version, record[BAUD]
+            self.note("Info", f"version {version:04X}" if version in (0, 0xFFFF) else "another version", f"baud {baud}" if baud in (0, 13, 14, 255) else "another baud",
+                      f"state {state_name(record[STATE])}", *(["with data"] if low_first(frame[LENGTH:DATA]) else []),
+                      *(["an image with a version in the flash"] if 2 <= self.size() <= self.setup.capacity and self.flash[self.size() - 2:self.size()] != b"\xFF\xFF" else []))
+        return super().app_answer(command)
+
+    def app_reset(self):
+        record, frame = self.record, self.state.frame
+        flags, baud, stored = frame[FLAGS], frame[ADDRESS], record[BAUD]
+        mode = "to Service" if flags & 1 else "hand-off"
+        self.note("Reset", f"flags {flags & 7}{', others set' if flags & 0xF8 else ''}", f"{mode}, state {state_name(record[STATE])}",
+                  f"{mode}, {'an app' if self.app_present() else 'no app'} in the flash")
+        if flags & 2:
+            self.note("Reset", "baud stored already" if baud == stored else f"baud {baud} stored" if baud in (0, 13, 14, 255) else "another baud stored")
+        elif baud != stored:
+            self.note("Reset", "another baud, not stored without bit 1")
+        if record[POSITION] != 0xFF and flags & 4 and frame[ADDRESS + 1] != record[POSITION]:
+            self.note("Reset", "bit 2 over a position")
+        if low_first(frame[LENGTH:DATA]):
+            self.note("Reset", "with data")
+        result = super().app_reset()
+        self.note("restart", MODES[result[3]])
+        return result
+
+    def of_call(self, name):
+        """Where one of the app's own calls is made."""
+        state = self.state
+        self.note(name, f"record of {self.record_lent}", *(where for where, so in (("inside a frame", state.begun), ("closed", not state.open)) if so))
+        for others, so in (("setup", not self.setup.good_for_app), ("room", self.room_lent < 64), ("state", not state.well_formed(self.setup.capacity))):
+            if so and self.record_lent == 12:
+                self.note(name, f"not refused by the {others}")
+
+    def confirm(self):
+        record = bytes(self.record)
+        self.of_call("confirm")
+        result = super().confirm()
+        if result != 13:
+            self.note("confirm", f"state {state_name(record[STATE])}: {result}")
+        if result == 1:
+            self.note("confirm", f"trials {record[TRIALS]:02X}" if record[TRIALS] in (0, 0x0F, 0xFF) else "other trials",
+                      *(name for name, so in (("a position kept", record[POSITION] != 0xFF), ("a baud kept", record[BAUD] != 0xFF), ("no checksum", record[CHECKSUM:SIZE] == b"\xFF\xFF")) if so))
+        return result
+
+    def set_baud(self, index):
+        self.of_call("set_baud")
+        stored = self.record[BAUD]
+        result = super().set_baud(index)
+        if result != 13:
+            self.note("set_baud", f"index {index} {'written' if result else 'already stored'}")
+            self.note("set_baud", "over none" if stored > 13 else "over a rate")
+            if result and self.record[POSITION] != 0xFF:
+                self.note("set_baud", "a position kept")
+            if result:
+                self.note("set_baud", f"state {state_name(self.record[STATE])}")
+        return result
+
+    def rate(self, default):
+        self.of_call("rate")
+        result, stored = super().rate(default), self.record[BAUD]
+        if result != 13:
+            self.note("rate", f"stored {stored}" if stored < 16 or stored == 255 else "stored above 15")
+            if stored > 13:
+                self.note("rate", f"default {default}")
+            elif stored != default:
+                self.note("rate", "not the default")
+        return result
+
     def select(self):
         setup, frame = self.setup, self.state.frame
         length, bits = low_first(frame[LENGTH:DATA]), 8 * setup.id_length
@@ -505,8 +589,13 @@ class Bench(model.Bench):
         return fault
 
     def done(self, letter, digits):
+        app = self.device.app_version is not None
         fault = super().done(letter, digits)
         self.seen["line", letter if fault is None else fault if fault in ("no such letter", "no digit", "half a byte") else f"{letter}: {fault}"] += 1
+        if app:
+            self.seen["app line", letter if fault is None else f"{letter}: {fault}"] += 1
+        if app and letter == "p" and len(digits) == 10:
+            self.seen["app line", f"p {digits[:2]}{': ' + fault if fault else ''}"] += 1
         return fault
 
     def line_t(self, text):
@@ -591,12 +680,65 @@ def wanted():
                         "length 53", "at its end -1", "at its end +0", "bytes not yet read do not count"],
         "setup": [f"erase size {n}" for n in (0, 63, 64, 65, 32, 96, 32768, 32769, 32832)] + [f"capacity {n}" for n in (0, 63, 64, 65, 65535, 65536, 65537, 65600)]
         + ["capacity a multiple of 64 alone"] + [f"id length {n}" for n in (0, 1, 16, 17, 255)] + [f"kind of start {n}" for n in (0, 1, 2, 3, 128, 255)] + ["of 31 bytes", "of 32 bytes"],
-        "line": [*model.Bench.COUNTS, "t", "no such letter", "no digit", "half a byte", *(f"{letter}: too few bytes" for letter in "sncmfrpqbje"),
-                 *(f"{letter}: too many bytes" for letter in "sncmfrpqbxodtje"), "j: more than 4", "e: no such mode", "n: more than 65600", "c: more than 16", "m: more than 512", "f: past byte 65600",
-                 "p: no such field", "p: more than 1", "q: past byte 64", "b: no such mode"],
+        "line": [*model.Bench.COUNTS, "t", "no such letter", "no digit", "half a byte", *(f"{letter}: too few bytes" for letter in "sncmfrpqbjeagy"),
+                 *(f"{letter}: too many bytes" for letter in "sncmfrpqbxodtjeakgy"), "j: more than 4", "e: no such mode", "n: more than 65600", "c: more than 16", "m: more than 512", "f: past byte 65600",
+                 "p: no such field", "p: more than 1", "q: past byte 64", "b: no such mode", "g: no such rate", "y: no such rate"],
     }
+    points |= wanted_of_the_app()
     return {group: [str(point) for point in found] for group, found in points.items()}
 
+
+def wanted_of_the_app():
+    every_state, both = ("FF", "7F", "3F", "another above 3F", "another below 3F"), ("", "app ")
+    points = {
+        "app": ["over the bootloader, open", "over the bootloader, closed"],
+        "app begins": ["over a frame begun", "over a run", "over a selection", "closed before"],
+        "app answer": [0, 1, 2, 3, 10, 11, 13, 14, 15],
+        "app reply": [f"{COMMANDS[command]} {STATUSES[status]}" for command, statuses in enumerate(((1, 3, 6), (3, 5, 6), (3, 5, 6), (3, 5, 6), (3, 6), (1, 3, 5, 6))) for status in statuses]
+        + ["no command Unsupported"],
+        "app status": (1, 3, 5, 6),
+        "app restart": MODES,
+        "app wait": range(16),
+        "app header": [f"{whom}: {what}" for whom in ("unaddressed", "addressed") for what in
+                       [f"command {n}" for n in (0, 1, 2, 3, 4, 5, 6, 255)] + [f"status {n}" for n in (0, 1, 7, 8, 255)]
+                       + [f"length {n}, {as_what}" for n in (0, 52, 53) for as_what in ("a request", "overheard")]] + ["no command, and a reply"],
+        "app CRC": [f"{whom}: {what}" for whom in ("a request", "overheard") for what in ("right", "low byte wrong", "high byte wrong")],
+        "app reading": ["AA AA 55", "AA and no 55", "55 behind the AA that ended a frame"],
+        "app piece": ["empty", "one byte", "longer", "ended with the frame", "went on behind the frame"],
+        "app begun at a call's end": range(64),
+        "app Info": ["version 0000", "version FFFF", "another version", *(f"baud {n}" for n in (0, 13, 14, 255)), *(f"state {name}" for name in every_state), "with data",
+                     "an image with a version in the flash"],
+        "app Reset": [f"flags {n}{others}" for n in range(8) for others in ("", ", others set")] + [f"{mode}, state {state}" for mode in ("to Service", "hand-off") for state in every_state]
+        + [f"{mode}, {what} in the flash" for mode in ("to Service", "hand-off") for what in ("an app", "no app")]
+        + ["baud stored already", *(f"baud {n} stored" for n in (0, 13, 14, 255)), "another baud stored", "another baud, not stored without bit 1", "bit 2 over a position", "with data"],
+        "app select": [f"length {n}" for n in (0, 1, 2, "above 2")] + [f"all bits right, count {n}" for n in ("0", "of all bits", "of all bits + 1", "255")] + ["selected by it", "deselected by it"]
+        + [f"{what} {how}" for what in (*COMMANDS[:5], "an error is silence") for how in ("selected", "not selected")],
+        "app silent": model.WHY_NAMES[1:],
+        "app silence": [f"addressed: {what}" for what in SILENCES] + [f"addressed: 2 by its {what}" for what in ("command", "status", "length")]
+        + [f"unaddressed: {what}" for what in ("1 alone", "1 before 2", "1 before 3")],
+        "app refused": [f"{one} alone" for one in APP_REFUSALS] + [f"{one} before {two}" for one in APP_REFUSALS for two in APP_REFUSALS if one < two],
+        "app setup": ["a kind of start above 1"],
+        "app flash lent": ["capacity -1", "capacity +0", "capacity +1"],
+        "app record lent": [0, 11, 12, 13, 16],
+        "app room lent": [0, 63, 64, 65, 512],
+        "app frame begun": [*(f"{name} alone wrong" for name in ("AA", "55", "command", "status", "length", "place")), "command 5", "command 6", "status 7", "status 8", "length 52",
+                            "length 53", "at its end -1", "at its end +0", "bytes not yet read do not count"],
+        "app line": ["q", "d", "n", "c", "m", "f", "r", "k", "g", "y", "a", "p 00", "p 01: no such field", "p 02: no such field", "p 03", "p 04", "p 03: more than 1", "p 04: more than 1",
+                     "p 05: no such field"],
+    }
+    for whose in both:
+        points[whose + "confirm"] = ([f"state {state}: {int(state == '3F')}" for state in every_state] + [f"record of {n}" for n in (0, 11, 12, 13, 16)]
+                                     + [f"trials {n}" for n in ("00", "0F", "FF")] + ["a position kept", "a baud kept", "no checksum", "inside a frame", "closed"])
+        points[whose + "set_baud"] = ([f"index {n} {what}" for n in range(14) for what in ("written", "already stored")] + [f"record of {n}" for n in (0, 11, 12, 13, 16)]
+                                      + ["over none", "over a rate", "a position kept", "inside a frame", "closed"] + [f"state {state}" for state in every_state])
+        points[whose + "rate"] = ([f"stored {n}" for n in (*range(16), 255)] + [f"default {n}" for n in range(14)] + [f"record of {n}" for n in (0, 11, 12, 13, 16)]
+                                  + ["not the default", "inside a frame", "closed"])
+    for name in ("app confirm", "app set_baud", "app rate"):
+        points[name] += [f"not refused by the {what}" for what in ("setup", "room", "state")]
+    return points
+
+
+APP_REFUSALS = (10, 11, 13, 14, 15)
 
 # The reasons for silence that can apply at once, the one that is told first; both ways where the header's command or status decides before its length. Never at
 # once are 2 and 3, for a frame that is unreadable ends before its CRC, and 4 and 5, of which one is a Select's and the other every other command's.
@@ -624,9 +766,10 @@ def missing(seen):
 
 
 def impossible(seen):
-    """Reasons for silence that were seen at once, or in an order, as they cannot be; careful starts that hand off without a checksum, or where a rewrite was cut
-    after one step or two; starts that hand off where the early answer said that they stay, or where it said so by no clause."""
-    return ([point for group, point in seen if group == "silence" and point not in wanted()["silence"]]
+    """Reasons for silence that were seen at once, or in an order, as they cannot be; the app refusing for a flash, which it does not have; careful starts that hand off
+    without a checksum, or where a rewrite was cut after one step or two; starts that hand off where the early answer said that they stay, or where it said so by no clause."""
+    return ([f"{group}: {point}" for group, point in seen if group in ("silence", "app silence") and point not in wanted()[group]
+             or group == "app refused" and "12" in point or (group, point) == ("app answer", "12")]
             + [point for group, point in seen if point.endswith(": hand-off") and (group == "careful start" and point.startswith("no checksum")
                                                                                   or group == "cut" and (" after 1, careful" in point or " after 2, careful" in point)
                                                                                   or group == "early" and point.startswith("stays"))]
