@@ -8,7 +8,7 @@ use Rattle.laws.specs.Pick.{pick}
 use Rattle.bench.specs.Digits.{between}
 use Rattle.bench.specs.Numbers.{at1, at2, at4}
 
--- whether a line of this letter may have n bytes: in this order s n c m f r p q b x o d t j e, and no other letter is one
+-- whether a line of this letter may have n bytes: in this order s n c m f r p q b x o d t j e a k g y, and no other letter is one
 unfoldable pub carried : ℕ → ℕ → Bool
 carried letter n =
     pick (eqb letter 115) (between 31 32 n)
@@ -26,27 +26,37 @@ carried letter n =
     (pick (eqb letter 116) (between 0 4096 n)
     (pick (eqb letter 106) (between 13 13 n)
     (pick (eqb letter 101) (between 1 1 n)
-    false))))))))))))))
+    (pick (eqb letter 97) (between 2 2 n)
+    (pick (eqb letter 107) (between 0 0 n)
+    (pick (eqb letter 103) (between 1 1 n)
+    (pick (eqb letter 121) (between 1 1 n)
+    false))))))))))))))))))
 
--- a field of the state and its value: 0 to 2 take any number of four bytes, 3 and 4 are flags
-abbrev pub settable : ℕ → ℕ → Bool
-settable field value = pick (ltb field 3) true (leb field 4 && leb value 1)
+-- a field of the state that is a number, 0 to 2; of an app only 0, since it writes nothing
+abbrev pub counted : Bool → ℕ → Bool
+counted runs field = pick runs (eqb field 0) true
 
--- whether a line's numbers are within their limits, in this order n c m f p q b j e: the lengths of the buffers, what a field takes, the modes 0
+-- a field of the state and its value, where the app runs or does not: 0 to 2 take any number of four bytes, 3 and 4 are flags
+abbrev pub settable : Bool → ℕ → ℕ → Bool
+settable runs field value = pick (ltb field 3) (counted runs field) (leb field 4 && leb value 1)
+
+-- whether a line's numbers are within their limits, in this order n c m f p q b j e g y: the lengths of the buffers, what a field takes, the modes 0
 -- and 1, the steps of a rewrite
-unfoldable pub within : ℕ → List ℕ → Bool
-within letter l =
+unfoldable pub within : Bool → ℕ → List ℕ → Bool
+within runs letter l =
     pick (eqb letter 110) (leb (at4 l 0) 65600)
     (pick (eqb letter 99) (leb (at1 l 0) 16)
     (pick (eqb letter 109) (leb (at2 l 0) 512)
     (pick (eqb letter 102) (leb (at4 l 0 + (length l - 4)) 65600)
-    (pick (eqb letter 112) (settable (at1 l 0) (at4 l 1))
+    (pick (eqb letter 112) (settable runs (at1 l 0) (at4 l 1))
     (pick (eqb letter 113) (leb (at1 l 0 + (length l - 1)) 64)
     (pick (eqb letter 98) (leb (at1 l 0) 1)
     (pick (eqb letter 106) (leb (at1 l 0) 4)
     (pick (eqb letter 101) (leb (at1 l 0) 1)
-    true))))))))
+    (pick (eqb letter 103) (leb (at1 l 0) 13)
+    (pick (eqb letter 121) (leb (at1 l 0) 13)
+    true))))))))))
 
 -- both
-abbrev pub allowed : ℕ → List ℕ → Bool
-allowed letter l = carried letter (length l) && within letter l
+abbrev pub allowed : Bool → ℕ → List ℕ → Bool
+allowed runs letter l = carried letter (length l) && within runs letter l

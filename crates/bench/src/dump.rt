@@ -57,6 +57,12 @@ fn area(out: &mut [u8], at: usize, f: &[u8]) -> usize {
     listed(out, at, b"data", &f[10..62])
 }
 
+// What is lent of the record.
+fn lent_record(out: &mut [u8], at: usize, bench: Bench) -> usize {
+    let meta = bench.meta;
+    listed(out, at, b"record", first(&meta, bench.record))
+}
+
 pub(crate) fn dump(
     bench: Bench,
     f: &FrameBytes,
@@ -66,9 +72,8 @@ pub(crate) fn dump(
 ) -> Bench {
     let mut bench = bench;
     let n = bench.numbers;
-    let meta = bench.meta;
     let at = summed(out, bench.out, b"flash", first(flash, bench.flash));
-    let at = listed(out, at, b"record", first(&meta, bench.record));
+    let at = lent_record(out, at, bench);
     let at = state(out, at, n);
     let at = area(out, at, f);
     let at = summed(out, at, b"room", first(room, bench.room));

@@ -1,4 +1,5 @@
-// Bytes fed to the module.
+// Bytes fed to the module, or to the app.
+use crate::app;
 use crate::module;
 use crate::module::Bench;
 use crate::show;
@@ -45,8 +46,8 @@ fn tell(out: &mut [u8], at: usize, said: Said, taken: usize, room: &[u8]) -> usi
     replied(out, at, first(room, said.len))
 }
 
-// The call, on what is lent.
-fn fed(
+// The bootloader's call, on what is lent.
+fn boot_fed(
     bench: Bench,
     bytes: &[u8],
     f: &mut FrameBytes,
@@ -70,6 +71,22 @@ fn fed(
         &mut meta[..meta_len],
         &mut room[..room_len],
     )
+}
+
+// The call of the one that runs.
+fn fed(
+    bench: Bench,
+    bytes: &[u8],
+    f: &mut FrameBytes,
+    page: &mut Page,
+    flash: &mut [u8],
+    meta: &mut [u8],
+    room: &mut [u8],
+) -> Passed {
+    if bench.runs {
+        return app::fed(bench, bytes, f, meta, room);
+    }
+    boot_fed(bench, bytes, f, page, flash, meta, room)
 }
 
 // One call, and its line.

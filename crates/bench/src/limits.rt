@@ -7,7 +7,7 @@ ghost use mathlib.Core.Path.{_≡_};
 ghost use Prim.Native.Nat.{ℕ, _+_, _-_};
 ghost use lib.Dec.{leb};
 ghost use Rattle.bench.specs.Digits.{between};
-ghost use Rattle.bench.specs.Limits.{carried, settable, within, allowed};
+ghost use Rattle.bench.specs.Limits.{carried, counted, settable, within, allowed};
 
 // The lengths of the buffers: of the flash, the record and the reply room.
 pub const FLASH: usize = 65600;
@@ -60,6 +60,10 @@ pub(crate) fn count_of(letter: u8) -> Count
         b't' => from_to(0, LINE),
         b'j' => from_to(13, 13),
         b'e' => from_to(1, 1),
+        b'a' => from_to(2, 2),
+        b'k' => from_to(0, 0),
+        b'g' => from_to(1, 1),
+        b'y' => from_to(1, 1),
         _ => from_to(1, 0),
     }
 }
@@ -91,12 +95,22 @@ fn has_room(at: usize, n: usize, most: usize) -> bool
     false
 }
 
+// Whether there is such a number: an app keeps but the first of three.
+fn is_counted(runs: bool, field: u8) -> bool
+    ensures { λ r. ⌜ r ≡ counted runs field ⌝ }
+{
+    if runs {
+        return field == 0;
+    }
+    true
+}
+
 // A number is never cut to a flag.
-fn is_settable(field: u8, value: u32) -> bool
-    ensures { λ r. ⌜ r ≡ settable field value ⌝ }
+fn is_settable(runs: bool, field: u8, value: u32) -> bool
+    ensures { λ r. ⌜ r ≡ settable runs field value ⌝ }
 {
     if field < 3 {
-        return true;
+        return is_counted(runs, field);
     }
     if field <= 4 {
         return value <= 1;
@@ -104,8 +118,8 @@ fn is_settable(field: u8, value: u32) -> bool
     false
 }
 
-fn is_within(letter: u8, bytes: &[u8]) -> bool
-    ensures { λ r. ⌜ r ≡ within letter (now (bytes .entry)) ⌝ }
+fn is_within(runs: bool, letter: u8, bytes: &[u8]) -> bool
+    ensures { λ r. ⌜ r ≡ within runs letter (now (bytes .entry)) ⌝ }
 {
     match letter {
         b'n' => numbers::four(bytes, 0) as usize <= FLASH,
@@ -116,21 +130,23 @@ fn is_within(letter: u8, bytes: &[u8]) -> bool
             past(bytes.len(), 4),
             FLASH,
         ),
-        b'p' => is_settable(byte_at(bytes, 0), numbers::four(bytes, 1)),
+        b'p' => is_settable(runs, byte_at(bytes, 0), numbers::four(bytes, 1)),
         b'q' => has_room(byte_at(bytes, 0) as usize, past(bytes.len(), 1), FRAME),
         b'b' => byte_at(bytes, 0) <= 1,
         b'j' => byte_at(bytes, 0) <= STEPS,
         b'e' => byte_at(bytes, 0) <= 1,
+        b'g' => byte_at(bytes, 0) <= 13,
+        b'y' => byte_at(bytes, 0) <= 13,
         _ => true,
     }
 }
 
-// Whether this is a line of the script.
-pub(crate) fn is_allowed(letter: u8, bytes: &[u8]) -> bool
-    ensures { λ r. ⌜ r ≡ allowed letter (now (bytes .entry)) ⌝ }
+// Whether this is a line of the script, where the app runs or does not.
+pub(crate) fn is_allowed(runs: bool, letter: u8, bytes: &[u8]) -> bool
+    ensures { λ r. ⌜ r ≡ allowed runs letter (now (bytes .entry)) ⌝ }
 {
     if carries(letter, bytes.len()) {
-        return is_within(letter, bytes);
+        return is_within(runs, letter, bytes);
     }
     false
 }

@@ -1,4 +1,5 @@
 // One module on the bench, driven by a script on standard input: docs/BENCH.md has its language.
+mod app;
 mod cutting;
 mod digits;
 mod dump;
@@ -9,6 +10,7 @@ mod limits;
 mod line;
 mod module;
 mod numbers;
+mod rates;
 mod script;
 mod show;
 mod silence;

@@ -1,4 +1,4 @@
-// The module on the bench: its setup, the numbers of its state and its record. The longer arrays, the frame's and the page's 64 bytes, flash and reply room,
+// The module on the bench: its setup, the numbers of its state, its record, and whether the app runs. The longer arrays, the frame's and the page's 64 bytes, flash and reply room,
 // are lent beside it, so that no call copies them.
 use crate::limits;
 use crate::numbers;
@@ -20,6 +20,9 @@ ghost use Rattle.io.specs.Counts.{Counts};
 pub struct Bench {
     pub setup: Setup,
     pub numbers: Numbers,
+    // Whether the app runs, and its version.
+    pub runs: bool,
+    pub app_version: u16,
     // The record's bytes.
     pub meta: [u8; limits::RECORD],
     // How much is lent of each.
@@ -96,7 +99,7 @@ fn fill(s: &mut [u8], b: u8) {
     }
 }
 
-// The state is the bench's from now on.
+// The bootloader's state is the bench's from now on.
 pub(crate) fn adopted(bench: Bench, state: State, f: &mut FrameBytes, page: &mut Page) -> Bench {
     let mut bench = bench;
     let bytes = state.frame;
@@ -105,6 +108,7 @@ pub(crate) fn adopted(bench: Bench, state: State, f: &mut FrameBytes, page: &mut
     *f = bytes;
     *page = filled;
     bench.numbers = n;
+    bench.runs = false;
     bench
 }
 
@@ -125,6 +129,8 @@ pub(crate) fn renewed(
     let bench = Bench {
         setup: setup,
         numbers: n,
+        runs: false,
+        app_version: 0,
         meta: meta,
         flash: least(setup.capacity, limits::FLASH),
         record: 12,

@@ -1,4 +1,5 @@
 // The script: a line is read whole before it acts.
+use crate::app;
 use crate::cutting;
 use crate::dump;
 use crate::early;
@@ -9,6 +10,7 @@ use crate::line::Line;
 use crate::module;
 use crate::module::Bench;
 use crate::numbers;
+use crate::rates;
 use crate::show;
 use crate::starting;
 use crate::words;
@@ -132,6 +134,8 @@ fn act(
         b't' => say(bench, bytes, out),
         b'j' => cutting::cut(bench, bytes),
         b'e' => early::tell(bench, byte_at(bytes, 0), out),
+        b'a' => app::begin(bench, numbers::two(bytes, 0), f),
+        b'k' | b'g' | b'y' => rates::ask(bench, letter, byte_at(bytes, 0), out),
         _ => drive(bench, letter, bytes, f, page, flash, room, out),
     }
 }
@@ -155,7 +159,7 @@ fn obey(
     if line.is_bad() {
         return refuse(bench, line, carried, out);
     }
-    if limits::is_allowed(letter, carried) {
+    if limits::is_allowed(bench.runs, letter, carried) {
         return act(bench, letter, carried, f, page, flash, room, out);
     }
     refuse(bench, line, carried, out)

@@ -16,8 +16,16 @@ fn past(out: &mut [u8], at: usize, end: usize) -> usize {
     show::decimal(out, at, end as u64)
 }
 
+// Of the others an app lacks some.
+fn is_flag(field: u8) -> bool {
+    if field < 3 {
+        return false;
+    }
+    field <= 4
+}
+
 fn field(out: &mut [u8], at: usize, field: u8) -> usize {
-    if field <= 4 {
+    if is_flag(field) {
         return more(out, at, 1);
     }
     show::text(out, at, b"no such field")
@@ -32,6 +40,7 @@ fn number(out: &mut [u8], at: usize, letter: u8, bytes: &[u8]) -> usize {
         b'f' => past(out, at, limits::FLASH),
         b'q' => past(out, at, FRAME),
         b'b' | b'e' => show::text(out, at, b"no such mode"),
+        b'g' | b'y' => show::text(out, at, b"no such rate"),
         b'j' => more(out, at, STEPS as usize),
         _ => field(out, at, byte_at(bytes, 0)),
     }

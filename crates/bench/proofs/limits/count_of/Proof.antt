@@ -80,31 +80,55 @@ returns-15 c n = rw (c .before .match .keys15, c .from-to15 .ensures .0, c .from
 
 returns-16 : tie.Need-returns-16
 unfolding carried
-returns-16 c n =
+returns-16 c n = rw (c .before .match .keys16, c .from-to16 .ensures .0, c .from-to16 .ensures .1)
+
+returns-17 : tie.Need-returns-17
+unfolding carried
+returns-17 c n = rw (c .before .match .keys17, c .from-to17 .ensures .0, c .from-to17 .ensures .1)
+
+returns-18 : tie.Need-returns-18
+unfolding carried
+returns-18 c n = rw (c .before .match .keys18, c .from-to18 .ensures .0, c .from-to18 .ensures .1)
+
+returns-19 : tie.Need-returns-19
+unfolding carried
+returns-19 c n = rw (c .before .match .keys19, c .from-to19 .ensures .0, c .from-to19 .ensures .1)
+
+returns-20 : tie.Need-returns-20
+unfolding carried
+returns-20 c n =
     let letter = c .before .before .args .letter in
     let rest = c .before .match .rest in
-    rw (c .from-to16 .ensures .0, c .from-to16 .ensures .1, none n) (simp (
-      ne-eqb letter 115 (rest .0 .0 .0 .0 .0 .0 .0 .0 .0 .0 .0 .0 .0 .0 .1),
-      ne-eqb letter 110 (rest .0 .0 .0 .0 .0 .0 .0 .0 .0 .0 .0 .0 .0 .1),
-      ne-eqb letter 99 (rest .0 .0 .0 .0 .0 .0 .0 .0 .0 .0 .0 .0 .1),
-      ne-eqb letter 109 (rest .0 .0 .0 .0 .0 .0 .0 .0 .0 .0 .0 .1),
-      ne-eqb letter 102 (rest .0 .0 .0 .0 .0 .0 .0 .0 .0 .0 .1),
-      ne-eqb letter 114 (rest .0 .0 .0 .0 .0 .0 .0 .0 .0 .1),
-      ne-eqb letter 112 (rest .0 .0 .0 .0 .0 .0 .0 .0 .1),
-      ne-eqb letter 113 (rest .0 .0 .0 .0 .0 .0 .0 .1),
-      ne-eqb letter 98 (rest .0 .0 .0 .0 .0 .0 .1),
-      ne-eqb letter 120 (rest .0 .0 .0 .0 .0 .1),
-      ne-eqb letter 111 (rest .0 .0 .0 .0 .1),
-      ne-eqb letter 100 (rest .0 .0 .0 .1),
-      ne-eqb letter 116 (rest .0 .0 .1),
-      ne-eqb letter 106 (rest .0 .1),
-      ne-eqb letter 101 (rest .1),
+    rw (c .from-to20 .ensures .0, c .from-to20 .ensures .1, none n) (simp (
+      ne-eqb letter 115 (rest .0 .0 .0 .0 .0 .0 .0 .0 .0 .0 .0 .0 .0 .0 .0 .0 .0 .0 .1),
+      ne-eqb letter 110 (rest .0 .0 .0 .0 .0 .0 .0 .0 .0 .0 .0 .0 .0 .0 .0 .0 .0 .1),
+      ne-eqb letter 99 (rest .0 .0 .0 .0 .0 .0 .0 .0 .0 .0 .0 .0 .0 .0 .0 .0 .1),
+      ne-eqb letter 109 (rest .0 .0 .0 .0 .0 .0 .0 .0 .0 .0 .0 .0 .0 .0 .0 .1),
+      ne-eqb letter 102 (rest .0 .0 .0 .0 .0 .0 .0 .0 .0 .0 .0 .0 .0 .0 .1),
+      ne-eqb letter 114 (rest .0 .0 .0 .0 .0 .0 .0 .0 .0 .0 .0 .0 .0 .1),
+      ne-eqb letter 112 (rest .0 .0 .0 .0 .0 .0 .0 .0 .0 .0 .0 .0 .1),
+      ne-eqb letter 113 (rest .0 .0 .0 .0 .0 .0 .0 .0 .0 .0 .0 .1),
+      ne-eqb letter 98 (rest .0 .0 .0 .0 .0 .0 .0 .0 .0 .0 .1),
+      ne-eqb letter 120 (rest .0 .0 .0 .0 .0 .0 .0 .0 .0 .1),
+      ne-eqb letter 111 (rest .0 .0 .0 .0 .0 .0 .0 .0 .1),
+      ne-eqb letter 100 (rest .0 .0 .0 .0 .0 .0 .0 .1),
+      ne-eqb letter 116 (rest .0 .0 .0 .0 .0 .0 .1),
+      ne-eqb letter 106 (rest .0 .0 .0 .0 .0 .1),
+      ne-eqb letter 101 (rest .0 .0 .0 .0 .1),
+      ne-eqb letter 97 (rest .0 .0 .0 .1),
+      ne-eqb letter 107 (rest .0 .0 .1),
+      ne-eqb letter 103 (rest .0 .1),
+      ne-eqb letter 121 (rest .1),
     ))
 
 pub count-of-spec : {M : Type 1} → statement M
 count-of-spec =
     tie.close
     (tie.spec
+    (λ c κs. search needs)
+    (λ c κs. search needs)
+    (λ c κs. search needs)
+    (λ c κs. search needs)
     (λ c κs. search needs)
     (λ c κs. search needs)
     (λ c κs. search needs)
@@ -136,4 +160,8 @@ count-of-spec =
     returns-13
     returns-14
     returns-15
-    returns-16)
+    returns-16
+    returns-17
+    returns-18
+    returns-19
+    returns-20)

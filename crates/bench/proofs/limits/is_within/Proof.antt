@@ -43,17 +43,27 @@ returns-9 c = rw (c .before .match .keys9, c .byte-at6 .ensures)
 
 returns-10 : tie.Need-returns-10
 unfolding within
-returns-10 c =
+returns-10 c = rw (c .before .match .keys10, c .byte-at7 .ensures)
+
+returns-11 : tie.Need-returns-11
+unfolding within
+returns-11 c = rw (c .before .match .keys11, c .byte-at8 .ensures)
+
+returns-12 : tie.Need-returns-12
+unfolding within
+returns-12 c =
     simp (
-      ne-eqb (c .before .before .args .letter) 110 (c .match .rest .0 .0 .0 .0 .0 .0 .0 .0 .1),
-      ne-eqb (c .before .before .args .letter) 99 (c .match .rest .0 .0 .0 .0 .0 .0 .0 .1),
-      ne-eqb (c .before .before .args .letter) 109 (c .match .rest .0 .0 .0 .0 .0 .0 .1),
-      ne-eqb (c .before .before .args .letter) 102 (c .match .rest .0 .0 .0 .0 .0 .1),
-      ne-eqb (c .before .before .args .letter) 112 (c .match .rest .0 .0 .0 .0 .1),
-      ne-eqb (c .before .before .args .letter) 113 (c .match .rest .0 .0 .0 .1),
-      ne-eqb (c .before .before .args .letter) 98 (c .match .rest .0 .0 .1),
-      ne-eqb (c .before .before .args .letter) 106 (c .match .rest .0 .1),
-      ne-eqb (c .before .before .args .letter) 101 (c .match .rest .1),
+      ne-eqb (c .before .before .args .letter) 110 (c .match .rest .0 .0 .0 .0 .0 .0 .0 .0 .0 .0 .1),
+      ne-eqb (c .before .before .args .letter) 99 (c .match .rest .0 .0 .0 .0 .0 .0 .0 .0 .0 .1),
+      ne-eqb (c .before .before .args .letter) 109 (c .match .rest .0 .0 .0 .0 .0 .0 .0 .0 .1),
+      ne-eqb (c .before .before .args .letter) 102 (c .match .rest .0 .0 .0 .0 .0 .0 .0 .1),
+      ne-eqb (c .before .before .args .letter) 112 (c .match .rest .0 .0 .0 .0 .0 .0 .1),
+      ne-eqb (c .before .before .args .letter) 113 (c .match .rest .0 .0 .0 .0 .0 .1),
+      ne-eqb (c .before .before .args .letter) 98 (c .match .rest .0 .0 .0 .0 .1),
+      ne-eqb (c .before .before .args .letter) 106 (c .match .rest .0 .0 .0 .1),
+      ne-eqb (c .before .before .args .letter) 101 (c .match .rest .0 .0 .1),
+      ne-eqb (c .before .before .args .letter) 103 (c .match .rest .0 .1),
+      ne-eqb (c .before .before .args .letter) 121 (c .match .rest .1),
     )
 
 pub is-within-spec : {M : Type 1} → statement M
@@ -80,6 +90,8 @@ is-within-spec =
     (λ c κs. search needs)
     (λ c κs. search needs)
     (λ c κs. search needs)
+    (λ c κs. search needs)
+    (λ c κs. search needs)
     returns
     returns-2
     returns-3
@@ -89,4 +101,6 @@ is-within-spec =
     returns-7
     returns-8
     returns-9
-    returns-10)
+    returns-10
+    returns-11
+    returns-12)
