@@ -50,6 +50,19 @@ four-else : (t : Bool) → (_≡_ {A = ℕ} (pick t 0 4) 0 → ⊥) → _≡_ {A
 four-else true h = absurd (h refl)
 four-else false h = refl
 
+-- a record's fields, with another baud
+abbrev pub otherBaud : List ℕ → ℕ → Fields
+otherBaud m baud =
+    record {
+      state = stateOf m;
+      trials = trialsOf m;
+      checksum = checksumOf m;
+      size = sizeOf m;
+      baud = baud;
+      position = positionOf m;
+      reserved = reservedOf m;
+    }
+
 module _ (m : List ℕ) where
   -- confirm's ways out; s is how many steps it takes
   pub confirm-refused : (length m ≡ 12 → ⊥) → leaves 13 m ≡ confirmOf m
@@ -142,40 +155,11 @@ module _ (m : List ℕ) where
         (λ n. cut-length (baudSteps m baud) m (withBaud m baud) (λ w. row-of-length m baud (positionOf m) ∙ w))
 
     -- field by field: the baud is this one, the rest kept, whether it was stored already or not
-    pub baud-fields : length m ≡ 12 → fieldsOf (baudStored m baud .meta)
-        ≡ record {
-          state = stateOf m;
-          trials = trialsOf m;
-          checksum = checksumOf m;
-          size = sizeOf m;
-          baud = baud;
-          position = positionOf m;
-          reserved = reservedOf m;
-        }
+    pub baud-fields : length m ≡ 12 → fieldsOf (baudStored m baud .meta) ≡ otherBaud m baud
     baud-fields n = ap fieldsOf (baud-cut n) ∙ go (eqb (baudOf m) baud) refl
       where
-        go : (t : Bool) → eqb (baudOf m) baud ≡ t → fieldsOf (cutAfter (pick t 0 4) (withBaud m baud) m)
-            ≡ record {
-              state = stateOf m;
-              trials = trialsOf m;
-              checksum = checksumOf m;
-              size = sizeOf m;
-              baud = baud;
-              position = positionOf m;
-              reserved = reservedOf m;
-            }
-        go true e =
-            ap
-            (λ (b : ℕ). record {
-              state = stateOf m;
-              trials = trialsOf m;
-              checksum = checksumOf m;
-              size = sizeOf m;
-              baud = b;
-              position = positionOf m;
-              reserved = reservedOf m;
-            })
-            (eqb-true (baudOf m) baud e)
+        go : (t : Bool) → eqb (baudOf m) baud ≡ t → fieldsOf (cutAfter (pick t 0 4) (withBaud m baud) m) ≡ otherBaud m baud
+        go true e = ap (otherBaud m) (eqb-true (baudOf m) baud e)
         go false e = row-fields m baud (positionOf m) n
 
     pub baud-position : positionOf (baudStored m baud .meta) ≡ positionOf m
