@@ -41,7 +41,7 @@ abbrev pub settable : Bool → ℕ → ℕ → Bool
 settable runs field value = pick (ltb field 3) (counted runs field) (leb field 4 && leb value 1)
 
 -- whether a line's numbers are within their limits, in this order n c m f p q b j e g y: the lengths of the buffers, what a field takes, the modes 0
--- and 1, the steps of a rewrite
+-- and 1, the steps of a rewrite, the rates
 unfoldable pub within : Bool → ℕ → List ℕ → Bool
 within runs letter l =
     pick (eqb letter 110) (leb (at4 l 0) 65600)
