@@ -52,7 +52,8 @@ pub fn holds_state(state: &[u8]) -> bool
     state[CLOSED] < 2
 }
 
-fn flag(b: bool) -> u8
+// A flag's byte.
+pub fn flag(b: bool) -> u8
     ensures { λ r. ⌜ r ≡ flagByte b ⌝ }
 {
     if b { 1 } else { 0 }

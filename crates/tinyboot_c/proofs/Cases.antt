@@ -14,6 +14,8 @@ use Rattle.device_replies.specs.Answers.{mute}
 use Rattle.device_feed.specs.Feed.{refusalFor, fedOf}
 use Rattle.c_layout.specs.Layout.{setupFrom, holdsState, stateFrom, answerBytes}
 use Rattle.c_start.specs.Start.{AfterStart, startRefused, startIn}
+use Rattle.c_app.specs.App.{appSetupFrom}
+use Rattle.c_app.specs.Calls.{AfterApp, appRefused, appFedIn}
 use Rattle.tinyboot_c.specs.Calls
 use Rattle.tinyboot_c.specs.Inner.{stateless}
 use Rattle.c_layout.proofs.Answering.{answer-short, answer-laid}
@@ -92,3 +94,14 @@ module _ (mode : ℕ) (setup state flash meta answer : List ℕ) where
       x ≡ Calls.cStarted 52 64 mode setup state flash meta answer
   unfolding Calls.cStarted
   start-setup h x e = e ∙ (simp h)
+
+-- a feed of the app: of a setup, or of none
+module _ (setup state bytes meta reply answer : List ℕ) where
+  pub app-no-setup : eqb (length setup) 33 ≡ false → appRefused 10 state meta reply answer ≡ Calls.cAppFed 52 64 setup state bytes meta reply answer
+  unfolding Calls.cAppFed
+  app-no-setup h = simp h
+
+  pub app-setup : eqb (length setup) 33 ≡ true → (x : AfterApp) → x ≡ appFedIn 52 64 (appSetupFrom setup) state bytes meta reply answer →
+      x ≡ Calls.cAppFed 52 64 setup state bytes meta reply answer
+  unfolding Calls.cAppFed
+  app-setup h x e = e ∙ (simp h)

@@ -16,6 +16,8 @@ use Rattle.device_feed.specs.Feed.{Called, fedOf}
 use Rattle.device_early.specs.Early.{earlyOf}
 use Rattle.c_layout.specs.Layout.{setupSize, answerSize, setupFrom, holdsState, stateFrom, stateBytes, answerBytes, answered}
 use Rattle.c_start.specs.Start.{AfterStart, asked, startRefused, startIn}
+use Rattle.c_app.specs.App.{appSetupSize, appSetupFrom}
+use Rattle.c_app.specs.Calls.{AfterApp, appRefused, appFedIn}
 
 -- a feed: its result, and each buffer after it
 pub record AfterFeed : Type 0 where
@@ -64,3 +66,9 @@ cStarted cap page mode setup state flash meta answer =
 -- an early answer, of the setup that the bytes hold (02, E11): it alters nothing, so that its result is all of it
 unfoldable pub cEarly : ℕ → ℕ → List ℕ → List ℕ → ℕ
 cEarly page mode setup meta = if not (eqb (length setup) setupSize) then 10 else earlyOf page (setupFrom setup) (asked mode) meta
+
+-- a feed of the running app (02, E3), of the setup that the bytes hold
+unfoldable pub cAppFed : ℕ → ℕ → List ℕ → List ℕ → List ℕ → List ℕ → List ℕ → List ℕ → AfterApp
+cAppFed cap page setup state bytes meta reply answer =
+    if not (eqb (length setup) appSetupSize) then appRefused 10 state meta reply answer else
+    appFedIn cap page (appSetupFrom setup) state bytes meta reply answer

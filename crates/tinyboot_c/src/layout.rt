@@ -1,4 +1,5 @@
 // What stands in the bytes of a setup, and numbers of several bytes.
+use app_state::AppSetup;
 use device_state::Setup;
 use wire_numbers::le;
 ghost use mathlib.Core.Path.{_≡_};
@@ -7,6 +8,7 @@ ghost use lib.ListN.{length};
 ghost use lib.Seq.{paste};
 ghost use Rattle.laws.specs.Low.{lowFirst};
 ghost use Rattle.c_layout.specs.Layout.{part, setupFrom};
+ghost use Rattle.c_app.specs.App.{appSetupFrom};
 
 // A byte as a count.
 pub(crate) fn wide(b: u8) -> usize
@@ -42,7 +44,7 @@ pub(crate) fn lay(s: &mut [u8], at: usize, new: &[u8])
 }
 
 fn id_from(setup: &[u8]) -> [u8; 16]
-    requires { ⌜ length (now setup) ≡ 32 ⌝ }
+    requires { ⌜ 25 ≤ length (now setup) ⌝ }
     ensures { λ r. ⌜ r ≡ part 9 16 (now (setup .entry)) ⌝ }
 {
     let mut id = [0u8; 16];
@@ -67,5 +69,21 @@ pub(crate) fn setup_from(setup: &[u8]) -> Setup
         version: two(setup, 25),
         key: four(setup, 27),
         start_kind: setup[31],
+    }
+}
+
+pub(crate) fn app_setup_from(setup: &[u8]) -> AppSetup
+    requires { ⌜ length (now setup) ≡ 33 ⌝ }
+    ensures { λ r. ⌜ r ≡ appSetupFrom (now (setup .entry)) ⌝ }
+{
+    let id = id_from(setup);
+    AppSetup {
+        erase_size: four(setup, 0) as usize,
+        capacity: four(setup, 4) as usize,
+        id: id,
+        id_len: wide(setup[8]),
+        version: two(setup, 25),
+        key: four(setup, 27),
+        app_version: two(setup, 31),
     }
 }

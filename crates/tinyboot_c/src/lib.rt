@@ -3,7 +3,15 @@ mod feeding;
 mod layout;
 mod state;
 
+use crate::layout::app_setup_from;
 use crate::layout::setup_from;
+use c_app::app_fed_in;
+use c_app::app_new_in;
+use c_app::baud_in;
+use c_app::confirm_in;
+use c_app::holds_app_setup;
+use c_app::position_in;
+use c_app::set_baud_in;
 use c_layout::ANSWER_SIZE;
 use c_layout::STATE_SIZE;
 use c_layout::holds_setup;
@@ -17,9 +25,11 @@ use wire_numbers::crc::crc16;
 ghost use mathlib.Core.Path.{_≡_};
 ghost use Rattle.wire_numbers.specs.Crc.{crcFrom};
 ghost use Rattle.wire_numbers.specs.Key.{keyOf};
+ghost use Rattle.app_record.specs.Changes.{leaves, confirmOf};
 ghost use Rattle.c_layout.specs.Layout.{stateSize};
+ghost use Rattle.c_app.specs.Calls.{afterApp, cAppNew, cSetBaud, cBaud, cPosition};
 ghost use Rattle.c_start.specs.Start.{afterNew, cNew, afterStart};
-ghost use Rattle.tinyboot_c.specs.Calls.{afterFeed, cFed, cStarted, cEarly};
+ghost use Rattle.tinyboot_c.specs.Calls.{afterFeed, cFed, cStarted, cEarly, cAppFed};
 
 // How many bytes a state takes.
 #[no_mangle]
@@ -110,4 +120,64 @@ pub extern "C" fn tinyboot_early(mode: u8, setup: &[u8], meta: &[u8]) -> u8
         return 10;
     }
     early_in(mode, setup_from(setup), meta)
+}
+
+// Takes the bytes up to the end of the first frame in them, and answers that frame as the running app.
+#[no_mangle]
+pub extern "C" fn tinyboot_app_feed(
+    setup: &[u8],
+    state: &mut [u8],
+    bytes: &[u8],
+    meta: &mut [u8],
+    reply: &mut [u8],
+    answer: &mut [u8],
+) -> u8
+    ensures { λ r. ⌜ afterApp r (now (state .exit)) (now (meta .exit)) (now (reply .exit)) (now (answer .exit)) ≡
+        cAppFed 52 64 (now (setup .entry)) (now (state .entry)) (now (bytes .entry)) (now (meta .entry)) (now (reply .entry)) (now (answer .entry)) ⌝ }
+{
+    if !holds_app_setup(setup) {
+        return refuse(answer, 10);
+    }
+    let s = app_setup_from(setup);
+    app_fed_in(s, state, bytes, meta, reply, answer)
+}
+
+// A new state of the app, where the buffer is as long as one.
+#[no_mangle]
+pub extern "C" fn tinyboot_app_new_state(state: &mut [u8]) -> u8
+    ensures { λ r. ⌜ afterNew r (now (state .exit)) ≡ cAppNew 52 (now (state .entry)) ⌝ }
+{
+    app_new_in(state)
+}
+
+// The app on trial stays.
+#[no_mangle]
+pub extern "C" fn tinyboot_confirm(meta: &mut [u8]) -> u8
+    ensures { λ r. ⌜ leaves r (now (meta .exit)) ≡ confirmOf (now (meta .entry)) ⌝ }
+{
+    confirm_in(meta)
+}
+
+// The stored rate in bits per second, or the one with this index where none is stored.
+#[no_mangle]
+pub extern "C" fn tinyboot_baud(meta: &[u8], default_index: u8) -> u32
+    ensures { λ r. ⌜ r ≡ cBaud (now (meta .entry)) «default_index» ⌝ }
+{
+    baud_in(meta, default_index)
+}
+
+// Stores the rate with this index.
+#[no_mangle]
+pub extern "C" fn tinyboot_set_baud(meta: &mut [u8], index: u8) -> u8
+    ensures { λ r. ⌜ leaves r (now (meta .exit)) ≡ cSetBaud (now (meta .entry)) index ⌝ }
+{
+    set_baud_in(meta, index)
+}
+
+// The place in the row.
+#[no_mangle]
+pub extern "C" fn tinyboot_position(meta: &[u8]) -> u16
+    ensures { λ r. ⌜ r ≡ cPosition (now (meta .entry)) ⌝ }
+{
+    position_in(meta)
 }
