@@ -5,9 +5,9 @@
  * The library keeps nothing between calls: all that a device is stands in the caller's buffers. The flash is an array in memory, not a chip's
  * flash; an erase and a write change the array. The library wants memcpy, memmove and memset of the C library, and nothing else.
  *
- * What is proved of each call is the definition of its name in ../specs/Calls.antt (tinyboot_feed: cFed, tinyboot_start: cStarted) and in c_start
- * (tinyboot_new_state: cNew), with the layouts of ../../c_layout/specs/Layout.antt. It is proved of buffers as slices, so it holds where the caller keeps to
- * this:
+ * What is proved of each call is the definition of its name in ../specs/Calls.antt (tinyboot_feed: cFed, tinyboot_start: cStarted), in c_start
+ * (tinyboot_new_state: cNew) and in c_app (tinyboot_set_baud: cSetBaud), with the layouts of ../../c_layout/specs/Layout.antt and
+ * ../../c_app/specs/App.antt. It is proved of buffers as slices, so it holds where the caller keeps to this:
  *   - a pointer and a length name that many bytes that the call may read, or read and write where the pointer is not const; no pointer is null, even at
  *     length 0;
  *   - no buffer that a call writes overlaps another buffer of the same call.
@@ -54,7 +54,7 @@ extern "C" {
 #endif
 
 /* The version of this interface. While the major one is 0, a change of a layout or a number raises the minor one. */
-#define TINYBOOT_VERSION 0x00000003
+#define TINYBOOT_VERSION 0x00000004
 #define TINYBOOT_VERSION_MAJOR (0xffff & (TINYBOOT_VERSION >> 16))
 #define TINYBOOT_VERSION_MINOR (0xffff & (TINYBOOT_VERSION >> 0))
 
@@ -65,6 +65,8 @@ extern "C" {
 #define TINYBOOT_META_SIZE 12
 #define TINYBOOT_REPLY_SIZE 64
 #define TINYBOOT_ANSWER_SIZE 16
+#define TINYBOOT_APP_SETUP_SIZE 33
+#define TINYBOOT_APP_STATE_SIZE 67
 
 /* Sizes and limits of a device. */
 #define TINYBOOT_PAGE_SIZE 64
@@ -255,6 +257,69 @@ enum tinyboot_outlook {
     TINYBOOT_STAYS = 1     /* the start stays in Service, whatever the flash has */
 };
 uint8_t tinyboot_early(uint8_t mode, const uint8_t *setup, size_t setup_len, const uint8_t *meta, size_t meta_len);
+
+/* The app. While the app runs, it answers the wire itself: it says Info and takes Reset, and no other command. It has a setup, a state and calls of its
+ * own, and no flash; the record is the same twelve bytes as the bootloader's. What a call says has the numbers above, without TINYBOOT_BAD_FLASH.
+ *
+ * What the app owes besides: bytes that were not taken, and replies, as with tinyboot_feed. After TINYBOOT_RESTART nothing is sent: the module is reset,
+ * and the bootloader's first call is tinyboot_start with the answer's mode. Until then a feed is refused with TINYBOOT_CLOSED. */
+
+/* The numbers of an app's setup: those of the bootloader that started it, with the same limits, and its own version. Set all to 0 first. */
+struct tinyboot_app_setup {
+    uint32_t erase_size;
+    uint32_t capacity;
+    uint8_t id_len;
+    uint8_t id[TINYBOOT_ID_SIZE];
+    uint16_t version; /* the bootloader's */
+    uint32_t key;
+    uint16_t app_version; /* the app's own, any: TINYBOOT_PACK_VERSION */
+};
+
+/* Lays them as tinyboot_app_feed reads them, TINYBOOT_APP_SETUP_SIZE bytes: 0 erase size (4), 4 capacity (4), 8 id length, 9 id (16), 25 version (2), 27
+ * key (4), 31 the app's version (2). */
+static inline void tinyboot_lay_app_setup(uint8_t *setup, const struct tinyboot_app_setup *numbers)
+{
+    size_t i;
+    tinyboot_put(setup, 4, numbers->erase_size);
+    tinyboot_put(setup + 4, 4, numbers->capacity);
+    setup[8] = numbers->id_len;
+    for (i = 0; i < TINYBOOT_ID_SIZE; i++) setup[9 + i] = numbers->id[i];
+    tinyboot_put(setup + 25, 2, numbers->version);
+    tinyboot_put(setup + 27, 4, numbers->key);
+    tinyboot_put(setup + 31, 2, numbers->app_version);
+}
+
+/* An open new state of an app, with no frame begun and deselected: an app's first call. 0; where state_len is another, TINYBOOT_BAD_STATE, and nothing is
+ * altered. A state has TINYBOOT_APP_STATE_SIZE bytes: 0 frame (64), 64 bytes begun, 65 selected, 66 closed, both 0 or 1. */
+uint8_t tinyboot_app_new_state(uint8_t *state, size_t state_len);
+
+/* Takes bytes up to the end of the first frame in them, answers that frame as the running app, and writes its reply. Info has mode 1 and the app's version
+ * of the setup. A Reset is never refused and has no reply: TINYBOOT_RESTART with length 0 and the mode that was asked for; with TINYBOOT_RESET_BAUD its
+ * rate is stored where it differs. Any other command is TINYBOOT_STATUS_UNSUPPORTED. Refusals: TINYBOOT_BAD_SETUP, TINYBOOT_BAD_STATE, TINYBOOT_BAD_RECORD,
+ * TINYBOOT_NO_ROOM for the reply or the answer, TINYBOOT_CLOSED. */
+uint8_t tinyboot_app_feed(const uint8_t *setup, size_t setup_len, uint8_t *state, size_t state_len, const uint8_t *bytes, size_t bytes_len,
+                          uint8_t *meta, size_t meta_len, uint8_t *reply, size_t reply_len, uint8_t *answer, size_t answer_len);
+
+/* What became of a change of the record; or a refusal, which alters nothing. */
+enum tinyboot_stored {
+    TINYBOOT_NOTHING_TO_DO = 0, /* and nothing is written */
+    TINYBOOT_WRITTEN = 1
+};
+
+/* The app that is on trial stays: of a record that is TINYBOOT_VALIDATING the state becomes TINYBOOT_IDLE and the trials 0xFF; any other is left as it is.
+ * Refusal: TINYBOOT_BAD_RECORD. */
+uint8_t tinyboot_confirm(uint8_t *meta, size_t meta_len);
+
+/* Stores a rate's index (docs/WIRE.md), for the bootloader to use from the next reset on; one already stored is not written again. Refusals:
+ * TINYBOOT_BAD_SETUP for an index of 14 or more, then TINYBOOT_BAD_RECORD. */
+uint8_t tinyboot_set_baud(uint8_t *meta, size_t meta_len, uint8_t index);
+
+/* The rate that the bootloader listens at, in bits per second: the stored one, or the one with this index where the record's is none. No rate is below
+ * 9,600, so that TINYBOOT_BAD_SETUP for an index of 14 or more, and then TINYBOOT_BAD_RECORD, are none. */
+uint32_t tinyboot_baud(const uint8_t *meta, size_t meta_len, uint8_t default_index);
+
+/* The place in the row that a Reset stored, 0xFF for none; or 256 + TINYBOOT_BAD_RECORD. */
+uint16_t tinyboot_position(const uint8_t *meta, size_t meta_len);
 
 /* The CRC register after these bytes (CRC-16/IBM-3740), for hosts that make frames: begin with 0xFFFF, and pass the last result on for a message in parts. */
 uint16_t tinyboot_crc16(uint16_t crc, const uint8_t *bytes, size_t bytes_len);
