@@ -1,7 +1,7 @@
 -- What the lines of this crate cite: two that equal one thing are equal; and what tells answers apart which contracts know by their numbers, or by what they
 -- say.
 use Prim.Native.Nat.{ℕ}
-use mathlib.Core.Path.{_≡_, refl, ap, sym, _∙_}
+use mathlib.Core.Path.{_≡_, refl, ap, ap₂, sym, _∙_}
 use native.Mathlib.Omega.{arith}
 use lib.Dec.{eqb}
 use Rattle.laws.specs.Pick.{pick}
@@ -22,6 +22,8 @@ use Rattle.device_state.specs.declared.refusal.Refusal.{Refusal}
 use Rattle.device_state.specs.Refusals.{refusalNumber}
 use Rattle.device_early.specs.declared.Outlook.{Outlook}
 use Rattle.device_early.specs.Early.{outlookNumber}
+use Rattle.device_mend.specs.declared.Mended.{Mended}
+use Rattle.device_mend.specs.Mend.{refusalIn, countIn}
 use Rattle.device_turns.specs.declared.Silence.{Silence}
 use Rattle.device_turns.specs.Turns.{whyNumber}
 use Rattle.device_replies.specs.declared.Answer.{Answer}
@@ -157,3 +159,15 @@ position-read-apart (PositionRead.Position x) (PositionRead.Position y) e = ap P
 position-read-apart (PositionRead.Position x) PositionRead.BadRecord e = let z : _≡_ {A = ℕ} 0 13 = ap (λ f. f .number) e in absurd (omega arith)
 position-read-apart PositionRead.BadRecord (PositionRead.Position y) e = let z : _≡_ {A = ℕ} 13 0 = ap (λ f. f .number) e in absurd (omega arith)
 position-read-apart PositionRead.BadRecord PositionRead.BadRecord e = refl
+
+abbrev mendedFrom : ℕ → ℕ → Mended
+mendedFrom n count = pick (eqb n 0) (Mended.Done count) (pick (eqb n 10) Mended.BadSetup (pick (eqb n 13) Mended.BadRecord Mended.ShortList))
+
+mended-back : (m : Mended) → mendedFrom (refusalIn m) (countIn m) ≡ m
+mended-back (Mended.Done count) = refl
+mended-back Mended.BadSetup = refl
+mended-back Mended.BadRecord = refl
+mended-back Mended.ShortList = refl
+
+pub mended-apart : (a b : Mended) → refusalIn a ≡ refusalIn b → countIn a ≡ countIn b → a ≡ b
+mended-apart a b e f = sym (mended-back a) ∙ ap₂ mendedFrom e f ∙ mended-back b

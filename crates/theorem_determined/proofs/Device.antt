@@ -1,12 +1,13 @@
 -- The device's functions and calls.
 use Rattle.theorem_determined.specs.Determined.{Determined}
-use Rattle.theorem_determined.proofs.Apart.{plain, refusal-apart, answer-apart, outlook-apart}
+use Rattle.theorem_determined.proofs.Apart.{plain, refusal-apart, answer-apart, outlook-apart, mended-apart}
 use Rattle.wire_numbers.proofs.Apart.{status-apart, mode-apart}
 use Rattle.wire_frames.proofs.Apart.{kind-apart}
 use Rattle.device_state.proofs as device_state
 use Rattle.device_boot.proofs as device_boot
 use Rattle.device_start.proofs as device_start
 use Rattle.device_early.proofs as device_early
+use Rattle.device_mend.proofs as device_mend
 use Rattle.device_handler.proofs as device_handler
 use Rattle.device_turns.proofs as device_turns
 use Rattle.device_replies.proofs as device_replies
@@ -62,6 +63,14 @@ outlook-number κs a o o' p q i = (plain p q i, o .1)
 
 pub early : Determined device_early.early.ended device_early.early.Reads.Post
 early κs a o o' p q i = (outlook-apart (o .0) (o' .0) (plain p q) i, o .1)
+
+pub mend-number : Determined device_mend.mend_number.ended device_mend.mend_number.Reads.Post
+mend-number κs a o o' p q i = (plain p q i, o .1)
+
+pub mend : Determined device_mend.mend.ended device_mend.mend.Reads.Post
+mend κs a o o' p q i =
+    let e = plain p q in
+    (mended-apart (o .0) (o' .0) (λ j. e j .refusal) (λ j. e j .count) i, (tt, (e i .meta, (e i .list, tt))))
 
 pub is-ok : Determined device_handler.is_ok.ended device_handler.is_ok.Reads.Post
 is-ok κs a o o' p q i = (plain p q i, o .1)
