@@ -121,3 +121,8 @@ tinyboot-set-baud κs a o o' p q i =
 
 pub tinyboot-position : Determined tinyboot_c.tinyboot_position.ended tinyboot_c.tinyboot_position.Reads.Post
 tinyboot-position κs a o o' p q i = (plain p q i, o .1)
+
+pub tinyboot-mend : Determined tinyboot_c.tinyboot_mend.ended tinyboot_c.tinyboot_mend.Reads.Post
+tinyboot-mend κs a o o' p q i =
+    let e = plain p q in
+    (e i .result, (tt, (e i .meta, (e i .list, tt))))

@@ -258,6 +258,14 @@ enum tinyboot_outlook {
 };
 uint8_t tinyboot_early(uint8_t mode, const uint8_t *setup, size_t setup_len, const uint8_t *meta, size_t meta_len);
 
+/* A record put in order: a state byte that is none becomes Updating's, trials become low ones with as many starts left, and a record whose checksum has an
+ * impossible size becomes Updating with none. The result is how many bytes have changed, 0 to 8; each has an entry in the list, three bytes in rising order of the
+ * place: place, old byte, new byte. Past the entries the list is left alone. A second mend changes nothing, and no start decides otherwise than before. Refusals,
+ * nothing is altered: TINYBOOT_BAD_SETUP, TINYBOOT_BAD_RECORD, TINYBOOT_SHORT_LIST for fewer than TINYBOOT_MEND_LIST_SIZE bytes of list. */
+#define TINYBOOT_MEND_LIST_SIZE 36
+#define TINYBOOT_SHORT_LIST 27
+uint8_t tinyboot_mend(const uint8_t *setup, size_t setup_len, uint8_t *meta, size_t meta_len, uint8_t *list, size_t list_len);
+
 /* The app. While the app runs, it answers the wire itself: it says Info and takes Reset, and no other command. It has a setup, a state and calls of its
  * own, and no flash; the record is the same twelve bytes as the bootloader's. What a call says has the numbers above, without TINYBOOT_BAD_FLASH.
  *

@@ -14,6 +14,7 @@ use Rattle.device_state.specs.Refusals.{setUp, refusalOf}
 use Rattle.device_replies.specs.Answers.{mute}
 use Rattle.device_feed.specs.Feed.{Called, fedOf}
 use Rattle.device_early.specs.Early.{earlyOf}
+use Rattle.device_mend.specs.Mend.{Mending, leaves, mendOf}
 use Rattle.c_layout.specs.Layout.{setupSize, answerSize, setupFrom, holdsState, stateFrom, stateBytes, answerBytes, answered}
 use Rattle.c_start.specs.Start.{AfterStart, asked, startRefused, startIn}
 use Rattle.c_app.specs.App.{appSetupSize, appSetupFrom}
@@ -72,3 +73,19 @@ unfoldable pub cAppFed : ℕ → ℕ → List ℕ → List ℕ → List ℕ → 
 cAppFed cap page setup state bytes meta reply answer =
     if not (eqb (length setup) appSetupSize) then appRefused 10 state meta reply answer else
     appFedIn cap page (appSetupFrom setup) state bytes meta reply answer
+
+-- a mend (02, E14): its result, how many bytes have changed or the refusal, and each buffer after it
+pub record AfterMend : Type 0 where
+  pub result : ℕ
+  pub meta : List ℕ
+  pub list : List ℕ
+
+abbrev pub afterMend : ℕ → List ℕ → List ℕ → AfterMend
+afterMend result meta list = record { result = result; meta = meta; list = list }
+
+abbrev pub mendCalled : Mending → AfterMend
+mendCalled x = afterMend (if eqb (x .refusal) 0 then x .count else x .refusal) (x .meta) (x .list)
+
+unfoldable pub cMended : ℕ → List ℕ → List ℕ → List ℕ → AfterMend
+cMended page setup meta list =
+    mendCalled (if not (eqb (length setup) setupSize) then leaves 10 0 meta list else mendOf page (setupFrom setup) meta list)

@@ -20,6 +20,8 @@ use c_layout::refuse;
 use c_start::early_in;
 use c_start::new_in;
 use c_start::start_in;
+use device_mend::mend;
+use device_mend::mend_number;
 use wire_numbers::compat_key;
 use wire_numbers::crc::crc16;
 ghost use mathlib.Core.Path.{_≡_};
@@ -29,7 +31,7 @@ ghost use Rattle.app_record.specs.Changes.{leaves, confirmOf};
 ghost use Rattle.c_layout.specs.Layout.{stateSize};
 ghost use Rattle.c_app.specs.Calls.{afterApp, cAppNew, cSetBaud, cBaud, cPosition};
 ghost use Rattle.c_start.specs.Start.{afterNew, cNew, afterStart};
-ghost use Rattle.tinyboot_c.specs.Calls.{afterFeed, cFed, cStarted, cEarly, cAppFed};
+ghost use Rattle.tinyboot_c.specs.Calls.{afterFeed, cFed, cStarted, cEarly, cAppFed, afterMend, cMended};
 
 // How many bytes a state takes.
 #[no_mangle]
@@ -180,4 +182,15 @@ pub extern "C" fn tinyboot_position(meta: &[u8]) -> u16
     ensures { λ r. ⌜ r ≡ cPosition (now (meta .entry)) ⌝ }
 {
     position_in(meta)
+}
+
+// A record put in order: how many bytes of it have changed, each listed by place, old and new byte; or the refusal.
+#[no_mangle]
+pub extern "C" fn tinyboot_mend(setup: &[u8], meta: &mut [u8], list: &mut [u8]) -> u8
+    ensures { λ r. ⌜ afterMend r (now (meta .exit)) (now (list .exit)) ≡ cMended 64 (now (setup .entry)) (now (meta .entry)) (now (list .entry)) ⌝ }
+{
+    if !holds_setup(setup) {
+        return 10;
+    }
+    mend_number(mend(setup_from(setup), meta, list))
 }
