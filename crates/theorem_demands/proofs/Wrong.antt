@@ -16,7 +16,8 @@ use Rattle.theorem_streams.specs.Demand.{next, stop}
 use Rattle.theorem_demands.specs.Stream.{Event, Story, streamOf}
 use Rattle.theorem_demands.specs.Devices.{acknowledging, greedy, swallows, stalls}
 use Rattle.theorem_demands.specs.Demand.{ours, Good, Demand3}
-use Rattle.theorem_demands.specs.Sheet.{frame, header, blank}
+use Rattle.wire_sender.specs.Sent.{frame}
+use Rattle.theorem_demands.specs.Sheet.{header, blank}
 use Rattle.theorem_demands.proofs.Cut.{new-good}
 
 -- a new unaddressed module of 64 bytes

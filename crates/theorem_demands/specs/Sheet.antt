@@ -4,7 +4,7 @@ use mathlib.Core.Bool.{Bool, true, false}
 use mathlib.Core.List.{List, [], _∷_, _++_}
 use lib.ListN.{length, getD, take, drop, replicate}
 use Rattle.laws.specs.Low.{lowBytes}
-use Rattle.wire_sender.specs.Sent.{wire}
+use Rattle.wire_sender.specs.Sent.{frame}
 use Rattle.device_boot.specs.Start.{startOf}
 use Rattle.device_state.specs.declared.Setup.{Setup}
 use Rattle.device_state.specs.declared.Numbers.{Numbers}
@@ -51,11 +51,6 @@ ok = refusedWith 1
 
 abbrev pub restarts : ℕ → Shown
 restarts mode = record { number = 3; status = 1; payload = []; wait = 0; mode = mode; why = 0 }
-
--- a frame on the wire: command, status, address, flags, data, and its CRC (01, Frame bytes)
-abbrev pub frame : ℕ → ℕ → ℕ → ℕ → List ℕ → List ℕ
-frame cmd status addr flags d =
-    wire (length d) (0xAA ∷ 0x55 ∷ cmd ∷ status ∷ (lowBytes 3 addr ++ (flags ∷ (lowBytes 2 (length d) ++ d))))
 
 -- the first ten bytes of one, for a frame that ends there; an Info with a CRC of 0, which is not its own
 abbrev pub header : ℕ → ℕ → ℕ → List ℕ

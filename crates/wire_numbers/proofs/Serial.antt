@@ -1,7 +1,7 @@
 -- A byte that enters at the register's high end, with eight steps after it, is the textbook's eight bits one by one.
 use mathlib.Core.Path.{_≡_, refl, sym, ap, ap₂, _∙_}
 use mathlib.Core.List.{List, [], _∷_, _++_, append-assoc}
-use Prim.Native.Nat.{ℕ, zero, suc, _+_, _*_, _/_, _%_, _<_, suc-le-suc}
+use Prim.Native.Nat.{ℕ, zero, suc, _+_, _*_, _/_, _%_, _^_, _<_, suc-le-suc}
 use native.Mathlib.Nat.{add-zero, zero-lt-suc}
 use lib.ListN.{length, getD}
 use native.Mathlib.Omega.{arith}
@@ -153,3 +153,15 @@ crc-parts c l m = ap (fold entered c) (joined l) ∙ parts entered c (bitsOf l) 
 check-value : crcFrom 0xFFFF (49 ∷ 50 ∷ 51 ∷ 52 ∷ 53 ∷ 54 ∷ 55 ∷ 56 ∷ 57 ∷ []) ≡ 0x29B1
 unfolding crcFrom bitsOf bits entered fold
 check-value = refl
+
+-- the register stays within 16 bits, whatever the message
+small-bits : (n c b : ℕ) → c < 65536 → fold entered c (bits n b) < 65536
+unfolding bits fold
+small-bits zero c b h = h
+small-bits (suc n) c b h = small-bits n (entered c (b / 2 ^ n % 2)) b (entered-lt c (b / 2 ^ n % 2) h (omega arith))
+
+pub crc-small : (c : ℕ) (l : List ℕ) → c < 65536 → crcFrom c l < 65536
+unfolding crcFrom bitsOf fold
+crc-small c [] h = h
+crc-small c (b ∷ l) h =
+    rw (parts entered c (bits 8 b) (bitsOf l)) (crc-small (fold entered c (bits 8 b)) l (small-bits 8 c b h))

@@ -1,6 +1,6 @@
 -- A frame as it is sent: its CRC right after its payload (01, Frame bytes, the data area and `send`).
 use Prim.Native.Nat.{ℕ, _+_}
-use mathlib.Core.List.{List, _++_}
+use mathlib.Core.List.{List, _∷_, _++_}
 use mathlib.Core.Bool.{_&&_}
 use lib.ListN.{length, take}
 use lib.Dec.{leb}
@@ -14,6 +14,14 @@ use Rattle.wire_frames.specs.Stored.{ready}
 -- header and payload of n bytes, then the CRC of both, low byte first
 abbrev pub wire : ℕ → List ℕ → List ℕ
 wire n f = take (10 + n) f ++ lowBytes 2 (crcOf (take (10 + n) f))
+
+-- header and payload of a frame's numbers: AA 55, command, status, address, flags, length, data (01, Frame bytes)
+abbrev pub fields : ℕ → ℕ → ℕ → ℕ → List ℕ → List ℕ
+fields cmd status addr flags d = 0xAA ∷ 0x55 ∷ cmd ∷ status ∷ (lowBytes 3 addr ++ (flags ∷ (lowBytes 2 (length d) ++ d)))
+
+-- a frame on the wire, of its numbers
+abbrev pub frame : ℕ → ℕ → ℕ → ℕ → List ℕ → List ℕ
+frame cmd status addr flags d = wire (length d) (fields cmd status addr flags d)
 
 -- the frame's bytes with AA 55 and the CRC laid
 unfoldable pub sealed : ℕ → List ℕ → List ℕ
