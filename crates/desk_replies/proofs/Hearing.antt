@@ -8,21 +8,20 @@ use borrow.Author.Tests.{ne-eqb, eq-eqb, eqb-true, lt-leb, le-leb}
 use lib.ListN.{length, getD, take, drop, replicate, length-drop, drop-of-length-le}
 use lib.Seq.{take-all, drop-cons, length-take-le}
 use lib.Dec.{eqb, leb}
-use Rattle.laws.specs.Pick.{pick}
 use Rattle.laws.specs.Low.{lowFirst}
 use Rattle.laws.proofs.Bools.{and-both}
 use Rattle.laws.proofs.Pick.{yes, no}
 use Rattle.wire_info.specs.Info.{infoRead}
 use Rattle.wire_info.specs.declared.InfoData.{InfoData}
-use Rattle.wire_frames.specs.Fields.{lenOf, dataOf, statusOf, cmdOf}
+use Rattle.wire_frames.specs.Fields.{lenOf, dataOf, statusOf}
 use Rattle.wire_frames.specs.declared.frame.Kind.{Kind}
 use Rattle.wire_frames.specs.declared.frame.Stop.{Stop}
-use Rattle.wire_frames.specs.Stored.{Said, quiet, ended, noBeginning, saidOf, seen, Read, readOf, partOf}
+use Rattle.wire_frames.specs.Stored.{ended, noBeginning, saidOf, seen, Read, partOf}
 use Rattle.wire_frames.proofs.Parts.{part-of-whole}
 use Rattle.desk_replies.specs.declared.Head.{Head}
 use Rattle.desk_replies.specs.declared.Contents.{Contents}
 use Rattle.desk_replies.specs.declared.Heard.{Heard}
-use Rattle.desk_replies.specs.Replies.{headOf, Typed, info, verify, select, plain, contentsOf, Told, request, reply, goodOf, heardBy, hearingOf, hearOf, hearPartOf, contentsTo, toldOf, hearingTo}
+use Rattle.desk_replies.specs.Replies.{headOf, info, verify, select, plain, contentsOf, Told, request, reply, goodOf, heardBy, hearingOf, hearOf, hearPartOf, contentsTo, toldOf, hearingTo}
 
 -- data of n bytes: none in a list of fewer than ten bytes, all that there are in one that ends too early
 pub data-none : (f : List ℕ) (n : ℕ) → length f < 10 → [] ≡ take n (drop 10 f)

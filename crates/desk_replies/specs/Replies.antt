@@ -1,8 +1,8 @@
 -- What the desk hears (02, E1): the Rust's `read`, fed in parts, which checks the CRC of a reply too. `cap` is the payload capacity.
 use Prim.Native.Nat.{ℕ}
-use mathlib.Core.Bool.{Bool, true, false, _&&_}
+use mathlib.Core.Bool.{false, _&&_}
 use mathlib.Core.List.{List}
-use lib.ListN.{length, take, drop}
+use lib.ListN.{take, drop}
 use lib.Dec.{eqb, leb}
 use Rattle.laws.specs.Pick.{if_then_else_}
 use Rattle.laws.specs.Low.{lowFirst}

@@ -11,7 +11,7 @@ ghost use lib.ListN.{length, take, drop};
 ghost use lib.Dec.{eqb, leb};
 ghost use mathlib.Core.Bool.{_&&_};
 ghost use Rattle.wire_frames.specs.declared.frame.Kind.{Kind};
-ghost use Rattle.wire_frames.specs.Fields.{cmdOf, lenOf, dataOf};
+ghost use Rattle.wire_frames.specs.Fields.{lenOf, dataOf};
 ghost use Rattle.wire_frames.specs.Stored.{ended, saidOf};
 ghost use Rattle.desk_replies.specs.Replies.{
   headOf,

@@ -1,17 +1,14 @@
 -- A request laid part by part, and the three ends of `write_parts`.
-use Prim.Native.Nat.{ℕ, zero, suc, _+_, _-_, _^_, _≤_, _<_}
+use Prim.Native.Nat.{ℕ, _+_, _-_, _^_, _≤_, _<_}
 use mathlib.Core.Path.{_≡_, refl, ap, sym, _∙_}
 use mathlib.Core.Bool.{Bool, true, false, _||_}
-use mathlib.Core.List.{List, [], _∷_, _++_, append-assoc}
+use mathlib.Core.List.{List, [], _++_, append-assoc}
 use native.Mathlib.Omega.{arith}
 use borrow.Author.Tests.{le-ltb, lt-ltb, ltb-false, le-leb}
-use lib.ListN.{length, take, drop, replicate, length-append, length-drop}
+use lib.ListN.{length, take, drop, length-append}
 use lib.Seq.{paste, take-at, take-all, take-append-le, drop-append-add, drop-drop}
 use lib.Dec.{ltb, leb}
-use Rattle.laws.specs.Pick.{pick}
-use Rattle.laws.specs.Low.{lowBytes}
 use Rattle.laws.specs.Over.{over}
-use Rattle.wire_numbers.specs.Names.{cmdNumber}
 use Rattle.wire_frames.specs.Fields.{lenOf}
 use Rattle.wire_frames.specs.Stored.{ready}
 use Rattle.wire_numbers.proofs.Bytes.{read-back}

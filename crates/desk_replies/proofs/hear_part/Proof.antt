@@ -1,6 +1,5 @@
 use mathlib.Core.Path.{_≡_}
 use lib.ListN.{length}
-use native.Mathlib.Omega.{arith}
 use Rattle.wire_frames.specs.declared.frame.Kind.{Kind}
 use Rattle.desk_replies.proofs.Hearing.{ended-whole, heard-part}
 use borrow.Author.Needs.{needs}

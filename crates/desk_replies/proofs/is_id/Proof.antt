@@ -1,5 +1,4 @@
 use Rattle.desk_replies.proofs.Hearing.{id-not, id-none, id-there}
-use borrow.Author.Needs.{needs}
 use Rattle.desk_replies.proofs.is_id.Statement.{statement}
 use Rattle.desk_replies.proofs.is_id.Tie as tie
 

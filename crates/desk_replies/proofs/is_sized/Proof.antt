@@ -1,5 +1,4 @@
 use Rattle.desk_replies.proofs.Hearing.{sized-not, sized-same}
-use borrow.Author.Needs.{needs}
 use Rattle.desk_replies.proofs.is_sized.Statement.{statement}
 use Rattle.desk_replies.proofs.is_sized.Tie as tie
 

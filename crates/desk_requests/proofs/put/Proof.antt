@@ -1,8 +1,8 @@
-use lib.Seq.{paste, paste-zero, paste-suc, length-paste}
+use lib.Seq.{paste, paste-zero, paste-suc}
 use lib.ListN.{length}
 use native.Mathlib.Numerals.{add-one}
-use mathlib.Core.Path.{_≡_, _∙_}
-use Prim.Native.Nat.{ℕ, _+_, _-_, _≤_}
+use mathlib.Core.Path.{_≡_}
+use Prim.Native.Nat.{_-_, _≤_}
 use native.Mathlib.Omega.{arith}
 use borrow.Author.Needs.{needs}
 use Rattle.desk_requests.proofs.put.Statement.{statement}
