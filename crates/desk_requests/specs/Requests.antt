@@ -33,11 +33,20 @@ pub record Wrote : Type 0 where
 abbrev pub wrote : ℕ → ℕ → List ℕ → Wrote
 wrote number len room = record { number = number; len = len; room = room }
 
--- each case of the code's answer, with the room as it stands afterwards
+-- each case of the code's answer by its number (02, E1: 14 and 20), and how many bytes were written
+abbrev pub writtenNumber : Written → ℕ
+writtenNumber (Written.Done len) = 0
+writtenNumber Written.NoRoom = 14
+writtenNumber Written.TooLarge = 20
+
+abbrev pub writtenLen : Written → ℕ
+writtenLen (Written.Done len) = len
+writtenLen Written.NoRoom = 0
+writtenLen Written.TooLarge = 0
+
+-- with the room as it stands afterwards
 abbrev pub writtenTo : Written → List ℕ → Wrote
-writtenTo (Written.Done len) room = wrote 0 len room
-writtenTo Written.NoRoom room = wrote 14 0 room
-writtenTo Written.TooLarge room = wrote 20 0 room
+writtenTo a room = wrote (writtenNumber a) (writtenLen a) room
 
 -- data above the capacity, or an address above 24 bits (02, E1, refusals)
 abbrev pub tooLarge : ℕ → ℕ → ℕ → Bool

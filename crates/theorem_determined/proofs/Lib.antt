@@ -1,5 +1,6 @@
 pub mod Apart
 pub mod Wire
+pub mod Desk
 pub mod Store
 pub mod Commands
 pub mod Device
