@@ -1,4 +1,4 @@
--- The desk's functions.
+-- The desk's functions, and its calls for C.
 use Prim.Native.Nat.{ℕ}
 use mathlib.Core.Path.{_≡_, refl, ap, sym, _∙_}
 use mathlib.Core.List.{List}
@@ -14,6 +14,7 @@ use Rattle.theorem_determined.specs.Determined.{Determined, DeterminedBe
 use Rattle.theorem_determined.proofs.Apart.{plain}
 use Rattle.desk_requests.proofs as desk_requests
 use Rattle.desk_replies.proofs as desk_replies
+use Rattle.c_desk.proofs as c_desk
 
 -- what a request's writing answered, of what is told of it
 abbrev writtenFrom : Wrote → Written
@@ -120,3 +121,38 @@ hear κs a o o' p q i =
       },
       (tt, (tt, tt)),
     )
+
+pub tinyboot-request-info : Determined c_desk.tinyboot_request_info.ended c_desk.tinyboot_request_info.Reads.Post
+tinyboot-request-info κs a o o' p q i =
+    let e = plain p q in
+    (e i .result, (e i .room, tt))
+
+pub tinyboot-request-erase : Determined c_desk.tinyboot_request_erase.ended c_desk.tinyboot_request_erase.Reads.Post
+tinyboot-request-erase κs a o o' p q i =
+    let e = plain p q in
+    (e i .result, (tt, (tt, (e i .room, tt))))
+
+pub tinyboot-request-write : Determined c_desk.tinyboot_request_write.ended c_desk.tinyboot_request_write.Reads.Post
+tinyboot-request-write κs a o o' p q i =
+    let e = plain p q in
+    (e i .result, (tt, (tt, (tt, (e i .room, tt)))))
+
+pub tinyboot-request-verify : Determined c_desk.tinyboot_request_verify.ended c_desk.tinyboot_request_verify.Reads.Post
+tinyboot-request-verify κs a o o' p q i =
+    let e = plain p q in
+    (e i .result, (tt, (e i .room, tt)))
+
+pub tinyboot-request-reset : Determined c_desk.tinyboot_request_reset.ended c_desk.tinyboot_request_reset.Reads.Post
+tinyboot-request-reset κs a o o' p q i =
+    let e = plain p q in
+    (e i .result, (tt, (tt, (e i .room, tt))))
+
+pub tinyboot-request-select : Determined c_desk.tinyboot_request_select.ended c_desk.tinyboot_request_select.Reads.Post
+tinyboot-request-select κs a o o' p q i =
+    let e = plain p q in
+    (e i .result, (tt, (tt, (tt, (e i .room, tt)))))
+
+pub tinyboot-hear : Determined c_desk.tinyboot_hear.ended c_desk.tinyboot_hear.Reads.Post
+tinyboot-hear κs a o o' p q i =
+    let e = plain p q in
+    (e i .result, (e i .frame, (tt, (tt, (e i .heard, tt)))))
