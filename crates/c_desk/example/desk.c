@@ -49,7 +49,7 @@ static int exchange(uint8_t said, uint8_t command, uint8_t expected)
 {
     size_t len, i, n;
     uint8_t got = TINYBOOT_HEARD_NOTHING;
-    HOLD(said == TINYBOOT_WRITTEN);
+    HOLD(said == TINYBOOT_DESK_WRITTEN);
     len = tinyboot_request_length(room);
     show("ask", room, len);
     for (i = 0; i < len; i++) {
@@ -113,7 +113,7 @@ static int refusals(void)
     HOLD(tinyboot_request_verify(0x1000000, room, sizeof room) == TINYBOOT_TOO_LARGE);
     HOLD(tinyboot_request_write(0, 0, data, sizeof data, room, sizeof room - 1) == TINYBOOT_NO_ROOM);
     HOLD(memcmp(before, room, sizeof room) == 0);
-    HOLD(tinyboot_request_write(0, 0, data, sizeof data - 1, room, sizeof room) == TINYBOOT_WRITTEN && tinyboot_request_length(room) == sizeof room);
+    HOLD(tinyboot_request_write(0, 0, data, sizeof data - 1, room, sizeof room) == TINYBOOT_DESK_WRITTEN && tinyboot_request_length(room) == sizeof room);
     HOLD(tinyboot_listen(&desk, room, sizeof room, heard) == TINYBOOT_HEARD_REQUEST && tinyboot_heard_length(heard) == TINYBOOT_PAYLOAD_SIZE);
     HOLD(tinyboot_listen(&desk, damaged, sizeof damaged, heard) == TINYBOOT_HEARD_FAULT && tinyboot_heard_status(heard) == TINYBOOT_STATUS_CRC_MISMATCH);
     HOLD(tinyboot_hear(desk.frame, sizeof desk.frame - 1, 0, damaged, 1, heard, sizeof heard) == TINYBOOT_BAD_STATE);

@@ -18,7 +18,7 @@ extern "C" {
 /* The six requests, written into a room of TINYBOOT_REPLY_SIZE bytes or more, and past the request the room keeps what it had. 0, or a refusal, and then
  * nothing is written: TINYBOOT_NO_ROOM before TINYBOOT_TOO_LARGE. */
 enum tinyboot_request_number {
-    TINYBOOT_WRITTEN = 0,
+    TINYBOOT_DESK_WRITTEN = 0,
     TINYBOOT_TOO_LARGE = 20 /* data above TINYBOOT_PAYLOAD_SIZE, or an address above 24 bits */
 };
 

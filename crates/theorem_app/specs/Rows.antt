@@ -7,7 +7,8 @@ use lib.ListN.{length, replicate}
 use Rattle.app_state.specs.declared.AppSetup.{AppSetup}
 use Rattle.app_state.specs.declared.AppNumbers.{AppNumbers}
 use Rattle.app_state.specs.State.{numbered, newApp}
-use Rattle.theorem_demands.specs.Sheet.{Shown, allShown, silence, replies, refusedWith, frame, header, damaged, info, erase, write, verify, reset, select}
+use Rattle.wire_sender.specs.Sent.{frame}
+use Rattle.theorem_demands.specs.Sheet.{Shown, allShown, silence, replies, refusedWith, header, damaged, info, erase, write, verify, reset, select}
 use Rattle.theorem_demands.specs.Sheet.{recordOf, inState, idReply}
 use Rattle.theorem_app.specs.Stream.{Story, storyOf}
 

@@ -103,7 +103,8 @@ module _ (cap page : ℕ) (enough : 18 ≤ cap) (small : cap < 256 ^ 2) (s : Set
       (w .state .numbers .selected)
   turns Kind.Good = asked-turns (w .state .numbers .selected)
 
-  pub dispatch-heard : (kind : Kind) → Loud (dispatchOf cap page s kind w room .told .number) → Claim cap (meantOf cap page s kind w) (dispatchOf cap page s kind w room)
+  pub dispatch-heard : (kind : Kind) → Loud (dispatchOf cap page s kind w room .told .number) →
+      Claim cap (meantOf cap page s kind w) (dispatchOf cap page s kind w room)
   unfolding dispatchOf meantOf
   dispatch-heard = turns
 
@@ -116,12 +117,13 @@ numbers-of page s e =
     let most : Bool = leb capacity 65536 && eqb (capacity % size) 0 in
     let all : Bool = not (eqb size 0) && (not (eqb capacity 0) && most) in
     let erases : Bool = leb size 32768 && eqb (size % page) 0 in
-    let a = and-both (leb page size && erases) (all && leb (s .«id_len») 16) e in
-    let b = and-both all (leb (s .«id_len») 16) (a .1) in
+    let named : Bool = leb (s .«id_len») 16 && leb (s .«start_kind») 1 in
+    let a = and-both (leb page size && erases) (all && named) e in
+    let b = and-both all named (a .1) in
     let c = and-both (not (eqb size 0)) (not (eqb capacity 0) && most) (b .0) in
     let d = and-both (not (eqb capacity 0)) most (c .1) in
     let h = and-both (leb page size) erases (a .0) in (
-      leb-true (s .«id_len») 16 (b .1),
+      leb-true (s .«id_len») 16 (and-both (leb (s .«id_len») 16) (leb (s .«start_kind») 1) (b .1) .0),
       leb-true capacity 65536 (and-both (leb capacity 65536) (eqb (capacity % size) 0) (d .1) .0),
       leb-true size 32768 (and-both (leb size 32768) (eqb (size % page) 0) (h .1) .0),
     )
@@ -159,7 +161,8 @@ module _ (cap page : ℕ) (enough : 18 ≤ cap) (small : cap < 256 ^ 2) where
           Heard (meantIn cap page s w l) (fedOf cap page s w l room .told .len) (hearOf cap f g (repliedWith (fedOf cap page s w l room) rest))
       go (Begun q) e = silence (subst (λ (x : Called). Loud (x .told .number)) (calls cap page s w y l room r (Begun q) e) loud)
         where
-          silence : Loud 0 → Heard (meantIn cap page s w l) (fedOf cap page s w l room .told .len) (hearOf cap f g (repliedWith (fedOf cap page s w l room) rest))
+          silence : Loud 0 →
+              Heard (meantIn cap page s w l) (fedOf cap page s w l room .told .len) (hearOf cap f g (repliedWith (fedOf cap page s w l room) rest))
           silence (inl x) = absurd (omega arith)
           silence (inr x) = absurd (omega arith)
       go (Ended k q t) e =

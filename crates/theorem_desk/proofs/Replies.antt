@@ -66,7 +66,8 @@ none-plain : (cmd : ℕ) (d : List ℕ) → contentsOf cmd 0 d ≡ plain d
 unfolding contentsOf
 none-plain cmd d = go (eqb cmd 0) (eqb cmd 3) (eqb cmd 5)
   where
-    go : (a b c : Bool) → pick (a && false) (info (infoRead d)) (pick (b && false) (verify (lowFirst d)) (pick (c && (false && true)) (select d) (plain d))) ≡ plain d
+    go : (a b c : Bool) →
+        pick (a && false) (info (infoRead d)) (pick (b && false) (verify (lowFirst d)) (pick (c && (false && true)) (select d) (plain d))) ≡ plain d
     go true true true = refl
     go true true false = refl
     go true false true = refl
@@ -112,7 +113,8 @@ erase-known page erase capacity f cells meta =
     go (not (rangeFits erase capacity f)) (eqb (flash.pagesErased page cells (addrOf f) (addrOf f + byteCountOf f) .answer) 0)
   where
     go : (a b : Bool) →
-        Known (pick a (erasedTo 4 cells meta) (erasedTo (pick b 1 2) (flash.pagesErased page cells (addrOf f) (addrOf f + byteCountOf f) .cells) (readied meta)) .status)
+        Known (pick a (erasedTo 4 cells meta)
+        (erasedTo (pick b 1 2) (flash.pagesErased page cells (addrOf f) (addrOf f + byteCountOf f) .cells) (readied meta)) .status)
     go true b = (omega arith, omega arith)
     go false true = (omega arith, omega arith)
     go false false = (omega arith, omega arith)

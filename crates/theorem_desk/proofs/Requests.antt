@@ -70,7 +70,8 @@ done cap r d room e = first (ltb (length room) (12 + cap)) e
     first false x = second (tooLarge cap (length d) (r .addr)) refl x
 
 -- a frame of a request's numbers, put to a device that waits
-module _ (cap : ℕ) (r : Request) (d : List ℕ) (k : length d ≤ cap) (z : length d < 256 ^ 2) (a : r .addr < 256 ^ 3) (f : List ℕ) (g : ℕ) (i : Waiting cap f g) where
+module _ (cap : ℕ) (r : Request) (d : List ℕ) (k : length d ≤ cap) (z : length d < 256 ^ 2)
+    (a : r .addr < 256 ^ 3) (f : List ℕ) (g : ℕ) (i : Waiting cap f g) where
   abbrev q : List ℕ
   q = fieldsOf r d
 

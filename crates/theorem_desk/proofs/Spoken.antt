@@ -94,7 +94,9 @@ module _ (cap a2 a3 a4 a5 a6 a7 a8 a9 : ℕ) (y : List ℕ) (status len : ℕ) w
     wire-sent room h = rw (← size, le-leb len cap k, le-leb (12 + len) (length room) (omega arith)) refl
 
     pub wire-part : (room : List ℕ) → take (12 + len) (over (wire len q) room) ≡ wire len q
-    wire-part room = take-at (wire len q) (drop (length (wire len q)) room) (12 + len) (wired.wire-long cap false q (drop 2 q) len refl size long c u k desk-reads)
+    wire-part room =
+        take-at (wire len q) (drop (length (wire len q)) room) (12 + len)
+        (wired.wire-long cap false q (drop 2 q) len refl size long c u k desk-reads)
 
 -- a reply's length is told, restart or not
 said-len : (due : Bool) (wait flags n : ℕ) → saidBy due wait flags n .len ≡ n
@@ -144,7 +146,8 @@ front-at f g e i k = sym (getD-take 10 f i 0 k) ∙ ap (λ (l : List ℕ). getD 
 
 -- a reply in the frame f, whose first ten bytes are those of the frame g that it answers
 module _ (cap status len : ℕ) (due : Bool) (wait : ℕ) (room : List ℕ) (r : 12 + cap ≤ length room) (t : 1 ≤ status) (u : status ≤ 7) (k : len ≤ cap)
-    (z : cap < 256 ^ 2) (f g : List ℕ) (whole : length f ≡ 12 + cap) (front : take 10 f ≡ take 10 g) (synced : g ≡ 0xAA ∷ 0x55 ∷ drop 2 g) (c : cmdOf g ≤ 5) where
+    (z : cap < 256 ^ 2) (f g : List ℕ) (whole : length f ≡ 12 + cap) (front : take 10 f ≡ take 10 g)
+    (synced : g ≡ 0xAA ∷ 0x55 ∷ drop 2 g) (c : cmdOf g ≤ 5) where
   same : (i : ℕ) → i < 10 → getD f i 0 ≡ getD g i 0
   same = front-at f g front
 

@@ -1,5 +1,5 @@
--- The desk and a device understand each other (02, E1): what the desk writes a device reads, what a device replies the desk reads, and the desk's reading may be
--- cut anywhere. `cap` is the payload capacity, `page` the page size.
+-- The desk and a device understand each other (02, E1): what the desk writes a device reads, what a device replies the desk reads, and the desk's reading may
+-- be cut anywhere. `cap` is the payload capacity, `page` the page size.
 use Prim.Native.Nat.{ℕ, _+_, _^_, _≤_, _<_}
 use mathlib.Core.Path.{_≡_}
 use mathlib.Core.Bool.{true}

@@ -36,8 +36,8 @@ infoMeant cap s w =
       «max_payload» = cap;
     }
 
--- the contents of a reply of this status, of the world with the request in its frame: who was chosen tells its id; of the others an Info and a Verify that are Ok
--- have contents (the address is the size), and all else has none
+-- the contents of a reply of this status, of the world with the request in its frame: who was chosen tells its id; of the others an Info and a Verify that are
+-- Ok have contents (the address is the size), and all else has none
 abbrev pub contentsMeant : ℕ → Setup → Bool → ℕ → World → Typed
 contentsMeant cap s chosen status w =
     if chosen then select (idOf s) else
