@@ -505,6 +505,32 @@ class Counted(model.Device):
         self.told = asked, outlook
         return result
 
+    # Mending
+
+    def mend(self, entries):
+        """Which rules apply to the record as it is, each looked at by itself."""
+        setup, record, size, checksum = self.setup, bytes(self.record[:12]), self.size(), self.checksum()
+        refused = [number for number, wrong in ((10, not setup.good), (13, self.record_lent != 12), (27, entries < 12)) if wrong]
+        held = vars(self.state).copy(), bytes(self.state.frame), bytes(self.flash), bytes(self.room), bytes(self.record[12:])
+        result = super().mend(entries)
+        if held != (vars(self.state), bytes(self.state.frame), bytes(self.flash), bytes(self.room), bytes(self.record[12:])) or refused and record != bytes(self.record[:12]):
+            raise AssertionError("a mend has changed something else")
+        self.was_cut = self.told = None
+        if refused:
+            self.note("mend", " before ".join(map(str, refused)) if len(refused) > 1 else f"{refused[0]} alone", *([f"list of {entries}"] if refused == [27] else []))
+            return result
+        low = record[TRIALS] & record[TRIALS] + 1 == 0
+        rules = [name for name, there in (
+            ("a state byte that is none", record[STATE] not in (0xFF, 0x7F, 0x3F)), ("trials that are no low ones", not low), ("a checksum and size 0", checksum != model.NO_CHECKSUM and size == 0),
+            ("a checksum and a size above capacity", checksum != model.NO_CHECKSUM and size > setup.capacity)) if there]
+        self.note("mend", f"by {rules[0]} alone" if len(rules) == 1 else "by more than one rule" if rules else "nothing to mend", f"{len(result[1])} entries", f"list of {entries}")
+        if not rules:
+            self.note("mend", *(f"kept: {name}" for name, there in (("size capacity", size == setup.capacity and checksum != model.NO_CHECKSUM), ("size 1", size == 1 and checksum != model.NO_CHECKSUM),
+                ("no checksum and size 0", checksum == model.NO_CHECKSUM and size == 0), ("trials 0", record[TRIALS] == 0)) if there))
+        if record[TRIALS] != self.record[TRIALS]:
+            self.note("mend", f"{model.longest_run(record[TRIALS])} starts left")
+        return result
+
     # A rewrite that is cut
 
     def cut(self, steps, new):
@@ -668,6 +694,10 @@ def wanted():
            "Validating with one trial", "size 0 and no checksum", "size capacity", "size above capacity and no checksum", "size 1", "a checksum"))]
         + ["not by the flash", "not by the room", "not by the state", "closed", "in the middle of a frame, a run or a selection"]
         + [f"{outlook}, and then {kind}: {mode}" for kind in START_KINDS for outlook, mode in (("stays", "stays"), ("reads on", "stays"), ("reads on", "hand-off"))],
+        "mend": ["10 alone", "13 alone", "27 alone", "10 before 13", "10 before 27", "13 before 27", "10 before 13 before 27", "list of 0", "list of 11", "list of 12", "list of 16"]
+        + [f"by {rule} alone" for rule in ("a state byte that is none", "trials that are no low ones", "a checksum and size 0", "a checksum and a size above capacity")]
+        + ["by more than one rule", "nothing to mend"] + [f"{n} entries" for n in range(9)] + [f"kept: {what}" for what in ("size capacity", "size 1", "no checksum and size 0", "trials 0")]
+        + [f"{n} starts left" for n in (1, 2, 7)],
         "cut": [f"{n} steps" for n in range(5)] + [f"record of {n} lent" for n in (0, 11, 12, 13, 16)] + ["a frame behind it, and no start between", "over a position that a Reset stored"]
         + [f"{request} after {n}, {kind} start: {mode}" for request, kind, table in CUTS for n, modes in enumerate(table) for mode in modes],
         "refused": ["10 by the kind of start alone"] + [f"{one} alone" for one in range(10, 16)] + [f"{one} before {two}" for one in range(10, 16) for two in range(one + 1, 16)],
@@ -680,9 +710,9 @@ def wanted():
                         "length 53", "at its end -1", "at its end +0", "bytes not yet read do not count"],
         "setup": [f"erase size {n}" for n in (0, 63, 64, 65, 32, 96, 32768, 32769, 32832)] + [f"capacity {n}" for n in (0, 63, 64, 65, 65535, 65536, 65537, 65600)]
         + ["capacity a multiple of 64 alone"] + [f"id length {n}" for n in (0, 1, 16, 17, 255)] + [f"kind of start {n}" for n in (0, 1, 2, 3, 128, 255)] + ["of 31 bytes", "of 32 bytes"],
-        "line": [*model.Bench.COUNTS, "t", "no such letter", "no digit", "half a byte", *(f"{letter}: too few bytes" for letter in "sncmfrpqbjeagy"),
-                 *(f"{letter}: too many bytes" for letter in "sncmfrpqbxodtjeakgy"), "j: more than 4", "e: no such mode", "n: more than 65600", "c: more than 16", "m: more than 512", "f: past byte 65600",
-                 "p: no such field", "p: more than 1", "q: past byte 64", "b: no such mode", "g: no such rate", "y: no such rate"],
+        "line": [*model.Bench.COUNTS, "t", "no such letter", "no digit", "half a byte", *(f"{letter}: too few bytes" for letter in "sncmfrpqbjeagyv"),
+                 *(f"{letter}: too many bytes" for letter in "sncmfrpqbxodtjeakgyv"), "j: more than 4", "e: no such mode", "n: more than 65600", "c: more than 16", "m: more than 512", "f: past byte 65600",
+                 "p: no such field", "p: more than 1", "q: past byte 64", "b: no such mode", "g: no such rate", "y: no such rate", "v: more than 16"],
     }
     points |= wanted_of_the_app()
     return {group: [str(point) for point in found] for group, found in points.items()}

@@ -16,6 +16,9 @@ pub const RECORD: usize = 16;
 
 pub const ROOM: usize = 512;
 
+// The entries that a list for a mend may have.
+pub const MOST_ENTRIES: u8 = 16;
+
 // The bytes of a line, and the characters of a text.
 pub const LINE: usize = 4096;
 
@@ -64,6 +67,7 @@ pub(crate) fn count_of(letter: u8) -> Count
         b'k' => from_to(0, 0),
         b'g' => from_to(1, 1),
         b'y' => from_to(1, 1),
+        b'v' => from_to(1, 1),
         _ => from_to(1, 0),
     }
 }
@@ -137,6 +141,7 @@ fn is_within(runs: bool, letter: u8, bytes: &[u8]) -> bool
         b'e' => byte_at(bytes, 0) <= 1,
         b'g' => byte_at(bytes, 0) <= 13,
         b'y' => byte_at(bytes, 0) <= 13,
+        b'v' => byte_at(bytes, 0) <= MOST_ENTRIES,
         _ => true,
     }
 }

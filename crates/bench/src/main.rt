@@ -8,6 +8,7 @@ mod feeding;
 mod input;
 mod limits;
 mod line;
+mod mending;
 mod module;
 mod numbers;
 mod rates;

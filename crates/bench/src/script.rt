@@ -7,6 +7,7 @@ use crate::feeding;
 use crate::input;
 use crate::limits;
 use crate::line::Line;
+use crate::mending;
 use crate::module;
 use crate::module::Bench;
 use crate::numbers;
@@ -134,6 +135,7 @@ fn act(
         b't' => say(bench, bytes, out),
         b'j' => cutting::cut(bench, bytes),
         b'e' => early::tell(bench, byte_at(bytes, 0), out),
+        b'v' => mending::mended(bench, byte_at(bytes, 0), out),
         b'a' => app::begin(bench, numbers::two(bytes, 0), f),
         b'k' | b'g' | b'y' => rates::ask(bench, letter, byte_at(bytes, 0), out),
         _ => drive(bench, letter, bytes, f, page, flash, room, out),

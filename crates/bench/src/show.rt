@@ -40,7 +40,7 @@ pub(crate) fn next_decimal(out: &mut [u8], at: usize, n: u64) -> usize {
     decimal(out, at, n)
 }
 
-fn pair(out: &mut [u8], at: usize, b: u8) -> usize {
+pub(crate) fn pair(out: &mut [u8], at: usize, b: u8) -> usize {
     let at = byte(out, at, digits::upper(b / 16));
     byte(out, at, digits::upper(b % 16))
 }

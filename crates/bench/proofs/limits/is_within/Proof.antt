@@ -51,19 +51,24 @@ returns-11 c = rw (c .before .match .keys11, c .byte-at8 .ensures)
 
 returns-12 : tie.Need-returns-12
 unfolding within
-returns-12 c =
+returns-12 c = rw (c .before .match .keys12, c .byte-at9 .ensures)
+
+returns-13 : tie.Need-returns-13
+unfolding within
+returns-13 c =
     simp (
-      ne-eqb (c .before .before .args .letter) 110 (c .match .rest .0 .0 .0 .0 .0 .0 .0 .0 .0 .0 .1),
-      ne-eqb (c .before .before .args .letter) 99 (c .match .rest .0 .0 .0 .0 .0 .0 .0 .0 .0 .1),
-      ne-eqb (c .before .before .args .letter) 109 (c .match .rest .0 .0 .0 .0 .0 .0 .0 .0 .1),
-      ne-eqb (c .before .before .args .letter) 102 (c .match .rest .0 .0 .0 .0 .0 .0 .0 .1),
-      ne-eqb (c .before .before .args .letter) 112 (c .match .rest .0 .0 .0 .0 .0 .0 .1),
-      ne-eqb (c .before .before .args .letter) 113 (c .match .rest .0 .0 .0 .0 .0 .1),
-      ne-eqb (c .before .before .args .letter) 98 (c .match .rest .0 .0 .0 .0 .1),
-      ne-eqb (c .before .before .args .letter) 106 (c .match .rest .0 .0 .0 .1),
-      ne-eqb (c .before .before .args .letter) 101 (c .match .rest .0 .0 .1),
-      ne-eqb (c .before .before .args .letter) 103 (c .match .rest .0 .1),
-      ne-eqb (c .before .before .args .letter) 121 (c .match .rest .1),
+      ne-eqb (c .before .before .args .letter) 110 (c .match .rest .0 .0 .0 .0 .0 .0 .0 .0 .0 .0 .0 .1),
+      ne-eqb (c .before .before .args .letter) 99 (c .match .rest .0 .0 .0 .0 .0 .0 .0 .0 .0 .0 .1),
+      ne-eqb (c .before .before .args .letter) 109 (c .match .rest .0 .0 .0 .0 .0 .0 .0 .0 .0 .1),
+      ne-eqb (c .before .before .args .letter) 102 (c .match .rest .0 .0 .0 .0 .0 .0 .0 .0 .1),
+      ne-eqb (c .before .before .args .letter) 112 (c .match .rest .0 .0 .0 .0 .0 .0 .0 .1),
+      ne-eqb (c .before .before .args .letter) 113 (c .match .rest .0 .0 .0 .0 .0 .0 .1),
+      ne-eqb (c .before .before .args .letter) 98 (c .match .rest .0 .0 .0 .0 .0 .1),
+      ne-eqb (c .before .before .args .letter) 106 (c .match .rest .0 .0 .0 .0 .1),
+      ne-eqb (c .before .before .args .letter) 101 (c .match .rest .0 .0 .0 .1),
+      ne-eqb (c .before .before .args .letter) 103 (c .match .rest .0 .0 .1),
+      ne-eqb (c .before .before .args .letter) 121 (c .match .rest .0 .1),
+      ne-eqb (c .before .before .args .letter) 118 (c .match .rest .1),
     )
 
 pub is-within-spec : {M : Type 1} → statement M
@@ -92,6 +97,7 @@ is-within-spec =
     (λ c κs. search needs)
     (λ c κs. search needs)
     (λ c κs. search needs)
+    (λ c κs. search needs)
     returns
     returns-2
     returns-3
@@ -103,4 +109,5 @@ is-within-spec =
     returns-9
     returns-10
     returns-11
-    returns-12)
+    returns-12
+    returns-13)
