@@ -1,5 +1,5 @@
-// Ours: the Rust's `App::poll` (lib/core/src/app.rs) reads from the wire until a frame has ended; this one is handed the bytes as they come, and answers what is
-// to be done.
+// Ours: the Rust's `App::poll` (lib/core/src/app.rs) reads from the wire until a frame has ended; this one is handed the bytes as they come, and answers what
+// is to be done.
 
 use app_state::AppNumbers;
 use app_state::AppSetup;

@@ -1,5 +1,5 @@
-// Translated from tinyboot, lib/core/src/app.rs (MIT OR Apache-2.0): `process` and `handle_cmd`; changed: the record is lent, the reply is written into a lent room,
-// the wait and the reset are answers.
+// Translated from tinyboot, lib/core/src/app.rs (MIT OR Apache-2.0): `process` and `handle_cmd`; changed: the record is lent, the reply is written into a lent
+// room, the wait and the reset are answers.
 
 use app_state::AppNumbers;
 use app_state::AppSetup;

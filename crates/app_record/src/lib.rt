@@ -1,5 +1,5 @@
-// Translated from tinyboot, lib/core/src/app.rs (MIT OR Apache-2.0): `confirm`, `baud`, `set_baud`, `store_baud`; changed: the record is lent, and what is no record
-// is refused.
+// Translated from tinyboot, lib/core/src/app.rs (MIT OR Apache-2.0): `confirm`, `baud`, `set_baud`, `store_baud`; changed: the record is lent, and what is
+// no record is refused.
 
 use store_record::boot_meta_store;
 use store_record::rewrite::RECORD;

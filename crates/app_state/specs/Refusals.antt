@@ -1,5 +1,5 @@
--- When a call of the app client refuses (01, What a call says; 02, E3): by the bootloader's tests, but for the flash, of which it has none. `cap` is the payload
--- capacity, `page` the page size.
+-- When a call of the app client refuses (01, What a call says; 02, E3): by the bootloader's tests, but for the flash, of which it has none. `cap` is the
+-- payload capacity, `page` the page size.
 use Prim.Native.Nat.{ℕ}
 use mathlib.Core.Bool.{Bool, true, not}
 use mathlib.Core.List.{List}

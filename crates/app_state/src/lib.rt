@@ -1,5 +1,5 @@
-// Translated from tinyboot, lib/core/src/app.rs (MIT OR Apache-2.0): `AppConfig` and what `App` keeps; changed: the state goes by value, the record is lent, and
-// what the Rust's types rule out is refused.
+// Translated from tinyboot, lib/core/src/app.rs (MIT OR Apache-2.0): `AppConfig` and what `App` keeps; changed: the state goes by value, the record is lent,
+// and what the Rust's types rule out is refused.
 
 use device_state::PRESENT;
 use device_state::refusal;

@@ -25,7 +25,8 @@ pub asked-of : (a : Written) (room : List ℕ) (w : Wrote) (n : ℕ) → n ≡ w
 asked-of a room w n e k = ap (λ (x : ℕ). asked x room) e ∙ ap cAsked k
 
 -- a Write's flags, of a byte
-pub write-plain : (flush addr : ℕ) (d room : List ℕ) → flush ≡ 0 → requestOf 52 (asks Cmd.Write 0 addr) d room ≡ requestOf 52 (asks Cmd.Write (pick (eqb flush 0) 0 (2 ^ 7)) addr) d room
+pub write-plain : (flush addr : ℕ) (d room : List ℕ) → flush ≡ 0 →
+    requestOf 52 (asks Cmd.Write 0 addr) d room ≡ requestOf 52 (asks Cmd.Write (pick (eqb flush 0) 0 (2 ^ 7)) addr) d room
 write-plain flush addr d room h = simp (eq-eqb flush 0 h)
 
 pub write-flushed : (flush addr : ℕ) (d room : List ℕ) → (flush ≡ 0 → ⊥) →
@@ -51,8 +52,8 @@ number-told (code.Heard.Faulty status) f = refl
 number-told code.Heard.Refused f = refl
 
 -- the 24 bytes, of their parts
-pub laid-of : (h : code.Heard) (f : Head) (a l : List ℕ) (n k g t : ℕ) → f ≡ heardHead h → a ≡ lowBytes 4 (f .addr) → l ≡ lowBytes 2 (f .len) → n ≡ heardNumber h →
-    k ≡ heardKind h →
+pub laid-of : (h : code.Heard) (f : Head) (a l : List ℕ) (n k g t : ℕ) → f ≡ heardHead h → a ≡ lowBytes 4 (f .addr) → l ≡ lowBytes 2 (f .len) →
+    n ≡ heardNumber h → k ≡ heardKind h →
     n ∷ f .cmd ∷ f .status ∷ f .flags ∷ getD a 0 0 ∷ getD a 1 0 ∷ getD a 2 0 ∷ getD a 3 0 ∷ getD l 0 0 ∷ getD l 1 0 ∷
     (lowBytes 2 g ++ (k ∷ 0 ∷ 0 ∷ 0 ∷ lowBytes 8 t)) ≡ laidBytes h g t
 laid-of h f a l n k g t ef ea el en ek =

@@ -48,8 +48,8 @@ kindTold (reply h c) = typedKind c
 kindTold (faulty status) = 0
 kindTold refused = 0
 
--- its 24 bytes: 0 number, 1 command, 2 status, 3 flags, 4 address (4), 8 length of the data (2), 10 bytes begun (2), 12 kind of contents, 13 to 15 are 0, 16 how many
--- bytes were taken (8)
+-- its 24 bytes: 0 number, 1 command, 2 status, 3 flags, 4 address (4), 8 length of the data (2), 10 bytes begun (2), 12 kind of contents, 13 to 15 are 0, 16
+-- how many bytes were taken (8)
 abbrev pub heardSize : ℕ
 heardSize = 24
 

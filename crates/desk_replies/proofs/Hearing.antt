@@ -21,7 +21,8 @@ use Rattle.wire_frames.proofs.Parts.{part-of-whole}
 use Rattle.desk_replies.specs.declared.Head.{Head}
 use Rattle.desk_replies.specs.declared.Contents.{Contents}
 use Rattle.desk_replies.specs.declared.Heard.{Heard}
-use Rattle.desk_replies.specs.Replies.{headOf, info, verify, select, plain, contentsOf, Told, request, reply, goodOf, heardBy, hearingOf, hearOf, hearPartOf, contentsTo, toldOf, hearingTo}
+use Rattle.desk_replies.specs.Replies.{headOf, info, verify, select, plain, contentsOf, Told, request, reply, goodOf, heardBy}
+use Rattle.desk_replies.specs.Replies.{hearingOf, hearOf, hearPartOf, contentsTo, toldOf, hearingTo}
 
 -- data of n bytes: none in a list of fewer than ten bytes, all that there are in one that ends too early
 pub data-none : (f : List ℕ) (n : ℕ) → length f < 10 → [] ≡ take n (drop 10 f)

@@ -35,8 +35,8 @@ contentsOf cmd len d =
     if eqb cmd 5 && (leb 1 len && leb len 16) then select d else
     plain d
 
--- what a call says, by its number: 0 no frame has ended; 1 a good request; 2 a good reply; 3 a frame that ended with a status of 3, 5 or 6, as the Rust's `read`
--- has them; 11 the frame handed in is no true beginning
+-- what a call says, by its number: 0 no frame has ended; 1 a good request; 2 a good reply; 3 a frame that ended with a status of 3, 5 or 6, as the Rust's
+-- `read` has them; 11 the frame handed in is no true beginning
 pub data Told : Type 0 where
   nothing : Told
   request : Head → List ℕ → Told

@@ -1,5 +1,5 @@
-// What the desk hears: the Rust's `read` (tinyboot, lib/protocol/src/frame.rs, MIT OR Apache-2.0), fed in parts, and what the frame that it read says. Ours: the
-// desk side has no upstream file.
+// What the desk hears: the Rust's `read` (tinyboot, lib/protocol/src/frame.rs, MIT OR Apache-2.0), fed in parts, and what the frame that it read says. Ours:
+// the desk side has no upstream file.
 
 use wire_frames::frame::Frame;
 use wire_frames::frame::FrameBytes;
@@ -34,7 +34,8 @@ pub struct Head {
     pub len: u16,
 }
 
-// The contents of a reply: Info's numbers, the CRC of a Verify, the id of who was selected, or bytes. The last two stand in the frame: `data_of` hands them back.
+// The contents of a reply: Info's numbers, the CRC of a Verify, the id of who was selected, or bytes. The last two stand in the frame: `data_of` hands them
+// back.
 pub enum Contents {
     Info { info: InfoData },
     Verify { crc: u16 },

@@ -12,8 +12,8 @@ use Rattle.device_start.specs.Starts.{careful}
 use Rattle.device_early.specs.declared.Outlook.{Outlook}
 use Rattle.device_early.specs.declared.Outlook.the-variants.{ReadsOn, Stays, BadSetup, BadRecord}
 
--- what the record says: it stays while Updating, while Validating without trials, with no checksum where the start is careful, and with one where the size is 0 or
--- above the capacity
+-- what the record says: it stays while Updating, while Validating without trials, with no checksum where the start is careful, and with one where the size is 0
+-- or above the capacity
 unfoldable pub recordStays : Bool → ℕ → List ℕ → Bool
 recordStays careful capacity meta =
     if updating meta then true else

@@ -1,4 +1,5 @@
-// Will a start stay, from the record alone. Ours: the Rust has no such call. It is for who shows early what a module will do, where the flash takes long to read.
+// Will a start stay, from the record alone. Ours: the Rust has no such call. It is for who shows early what a module will do, where the flash takes
+// long to read.
 
 use device_state::CAREFUL;
 use device_state::Setup;

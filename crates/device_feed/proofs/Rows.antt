@@ -152,4 +152,67 @@ cases =
 
 all-held : held cases
 unfolding call-rules resetRefused resetOf
-all-held = ((refl, refl, refl), ((refl, refl, refl), ((refl, refl, refl), ((refl, refl, refl), ((refl, refl, refl), ((refl, refl, refl), ((refl, refl, refl), ((refl, refl, refl), ((refl, refl, refl), ((refl, refl, refl), ((refl, refl, refl), ((refl, refl, refl), ((refl, refl, refl), ((refl, refl, refl), ((refl, refl, refl), ((refl, refl, refl), ((refl, refl, refl), ((refl, refl, refl), ((refl, refl, refl), ((refl, refl, refl), ((refl, refl, refl), tt)))))))))))))))))))))
+all-held = (
+  (refl, refl, refl),
+  (
+    (refl, refl, refl),
+    (
+      (refl, refl, refl),
+      (
+        (refl, refl, refl),
+        (
+          (refl, refl, refl),
+          (
+            (refl, refl, refl),
+            (
+              (refl, refl, refl),
+              (
+                (refl, refl, refl),
+                (
+                  (refl, refl, refl),
+                  (
+                    (refl, refl, refl),
+                    (
+                      (refl, refl, refl),
+                      (
+                        (refl, refl, refl),
+                        (
+                          (refl, refl, refl),
+                          (
+                            (refl, refl, refl),
+                            (
+                              (refl, refl, refl),
+                              (
+                                (refl, refl, refl),
+                                (
+                                  (refl, refl, refl),
+                                  (
+                                    (refl, refl, refl),
+                                    (
+                                      (refl, refl, refl),
+                                      (
+                                        (refl, refl, refl),
+                                        (
+                                          (refl, refl, refl),
+                                          tt,
+                                        ),
+                                      ),
+                                    ),
+                                  ),
+                                ),
+                              ),
+                            ),
+                          ),
+                        ),
+                      ),
+                    ),
+                  ),
+                ),
+              ),
+            ),
+          ),
+        ),
+      ),
+    ),
+  ),
+)

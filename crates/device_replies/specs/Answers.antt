@@ -1,5 +1,5 @@
--- What a call says (01, What a call says; 02, E2): each case of the answer by its number, with the reply's length, the wait before it, the mode of a restart and
--- the reason of silence.
+-- What a call says (01, What a call says; 02, E2): each case of the answer by its number, with the reply's length, the wait before it, the mode of a restart
+-- and the reason of silence.
 use Prim.Native.Nat.{ℕ}
 use Rattle.wire_numbers.specs.Names.{modeNumber}
 use Rattle.device_turns.specs.Turns.{whyNumber}

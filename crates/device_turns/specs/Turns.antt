@@ -45,7 +45,8 @@ chosen c = if c .match then turned (Turn.Reply true true (c .wait)) (c .bytes) e
 abbrev pub damaged : Silence → ℕ → Bool → List ℕ → Turned
 damaged why idLen on f = if eqb idLen 0 then replies on f else silent why on f
 
--- a good request: with no id all are replied to; with one Select is for all, and another command for the selected (01, Frame bytes, addressed; Commands, Select)
+-- a good request: with no id all are replied to; with one Select is for all, and another command for the selected (01, Frame bytes, addressed; Commands,
+-- Select)
 abbrev pub asked : List ℕ → ℕ → List ℕ → Bool → Turned
 asked id idLen f on =
     if eqb idLen 0 then replies on f else

@@ -1,5 +1,5 @@
-// Feeds an unaddressed device what stands on standard input, and prints what each frame was answered: where it ends, and the reply's status or `silent` and why;
-// at the end, how many bytes of a frame have begun. A restart ends it.
+// Feeds an unaddressed device what stands on standard input, and prints what each frame was answered: where it ends, and the reply's status or `silent` and
+// why; at the end, how many bytes of a frame have begun. A restart ends it.
 use device_feed::feed;
 use device_replies::Answer;
 use device_state::PRESENT;

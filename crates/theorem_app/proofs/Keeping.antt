@@ -21,7 +21,8 @@ use Rattle.device_replies.specs.Reply.{replyOf}
 use Rattle.device_dispatcher.specs.Dispatch.{good}
 use Rattle.app_state.specs.declared.AppSetup.{AppSetup}
 use Rattle.app_state.specs.State.{AppWorld, frameSet}
-use Rattle.app_dispatcher.specs.Acts.{Ending, ending, Replied, replied, appInfo, idOf, repliedOf, answeredOf, resets, resetOf, spokenOf, turning, afterTurn, actOf}
+use Rattle.app_dispatcher.specs.Acts.{Ending, ending, Replied, replied, appInfo, idOf, repliedOf, answeredOf, resets, resetOf, spokenOf, turning}
+use Rattle.app_dispatcher.specs.Acts.{afterTurn, actOf}
 use Rattle.app_dispatcher.proofs.Acting.{row-length}
 use Rattle.theorem_streams.proofs.Replies.{Kept, sync-on, turned-kept, reply-kept, reply-same}
 use Rattle.theorem_streams.proofs.Owed as owed

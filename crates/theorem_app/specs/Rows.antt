@@ -97,8 +97,8 @@ errors =
     (refusedWith 5 ∷ refusedWith 6 ∷ refusedWith 3 ∷ silence 1 ∷ [])
     false
 
--- with an id: silent until selected, and the id after the wait that the bootloader would wait too; then Info, and Unsupported for what the app has not; a Select
--- for another deselects
+-- with an id: silent until selected, and the id after the wait that the bootloader would wait too; then Info, and Unsupported for what the app has not; a
+-- Select for another deselects
 abbrev pub addressed : Row
 addressed =
     kept (0x5A ∷ 0x01 ∷ []) (inState 0xFF)

@@ -1,4 +1,5 @@
--- The app client as a kind of device of `theorem_streams`, and what a stream comes to by its rules (02, E3). `cap` is the payload capacity, `page` the page size.
+-- The app client as a kind of device of `theorem_streams`, and what a stream comes to by its rules (02, E3). `cap` is the payload capacity, `page` the page
+-- size.
 use Prim.Native.Nat.{ℕ}
 use mathlib.Core.List.{List}
 use lib.ListN.{length}

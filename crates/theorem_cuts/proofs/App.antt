@@ -26,7 +26,8 @@ use Rattle.theorem_cuts.proofs.Cuts.{cuts-decided}
 use Rattle.theorem_cuts.proofs.Frames.{Like}
 
 -- what is no record stays, also where it would be rewritten
-whole-if : (new meta : List ℕ) (t : Bool) → eqb (length meta) 12 ≡ t → pick (not t) (leaves 13 meta) (leaves 1 (cutAfter 4 new meta)) .meta ≡ cutAfter 4 new meta
+whole-if : (new meta : List ℕ) (t : Bool) → eqb (length meta) 12 ≡ t →
+    pick (not t) (leaves 13 meta) (leaves 1 (cutAfter 4 new meta)) .meta ≡ cutAfter 4 new meta
 whole-if new meta true e = refl
 whole-if new meta false e = sym (cut-none 4 new meta (eqb-false (length meta) 12 e))
 

@@ -1,5 +1,6 @@
 -- Three rewrites, cut after 0 to 4 steps: what the present start decides and what the careful one does, asked for a hand-off (0 hand-off, 1 Service). The
--- present start fails at 1, where the record is all ones: in the first two rows it hands off to an image that neither the old record nor the new one lets start.
+-- present start fails at 1, where the record is all ones: in the first two rows it hands off to an image that neither the old record nor the new one lets
+-- start.
 use Prim.Native.Nat.{ℕ}
 use mathlib.Core.Bool.{Bool, true, false}
 use mathlib.Core.List.{List, [], _∷_}

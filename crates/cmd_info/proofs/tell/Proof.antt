@@ -13,8 +13,8 @@ returns c =
     let a = at-to-bytes .before .before .before .args in
     c .lay .ensures ∙
     ap (λ (l : List ℕ). infoLaid (a .f .now) l)
-    (info-built (a .payload) (a .mode) (a .app-version) (a .capacity) (a .erase-size) (a .version) (a .key) _ (a .meta .now) _ (at-to-bytes .before .baud .ensures)
-    (at-to-bytes .to-bytes .ensures))
+    (info-built (a .payload) (a .mode) (a .app-version) (a .capacity) (a .erase-size) (a .version) (a .key) _ (a .meta .now) _
+    (at-to-bytes .before .baud .ensures) (at-to-bytes .to-bytes .ensures))
 
 pub tell-spec : {M : Type 1} → statement M
 tell-spec =

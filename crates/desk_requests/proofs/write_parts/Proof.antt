@@ -22,7 +22,8 @@ framed-requires : tie.Need-framed-requires
 framed-requires c κs =
     let a = c .before .before .before .before .before .before .args in
     let l : length (a .own .now ++ a .rest .now) ≤ 52 =
-    data-fits 52 _ (a .request .addr) (parts-tested 52 (a .request .addr) (a .own .now) (a .rest .now) _ _ (c .before .before .too-large .ensures) (c .if2 .left)) in
+    data-fits 52 _ (a .request .addr)
+    (parts-tested 52 (a .request .addr) (a .own .now) (a .rest .now) _ _ (c .before .before .too-large .ensures) (c .if2 .left)) in
     rw (length-append (a .own .now) (a .rest .now)) at l
 
 returns-3 : tie.Need-returns-3

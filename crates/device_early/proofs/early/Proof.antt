@@ -17,13 +17,21 @@ returns-3 : tie.Need-returns-3
 unfolding earlyOf
 returns-3 c =
     let l = c .before .before in
-    simp (sym (l .before .before .set-up .ensures) ∙ not-false _ (l .before .if1 .left), eq-eqb _ _ (l .if2 .left), sym (c .before .is-staying .ensures) ∙ c .if3 .taken)
+    simp (
+      sym (l .before .before .set-up .ensures) ∙ not-false _ (l .before .if1 .left),
+      eq-eqb _ _ (l .if2 .left),
+      sym (c .before .is-staying .ensures) ∙ c .if3 .taken,
+    )
 
 returns-4 : tie.Need-returns-4
 unfolding earlyOf
 returns-4 c =
     let l = c .before .before in
-    simp (sym (l .before .before .set-up .ensures) ∙ not-false _ (l .before .if1 .left), eq-eqb _ _ (l .if2 .left), sym (c .before .is-staying .ensures) ∙ c .if3 .left)
+    simp (
+      sym (l .before .before .set-up .ensures) ∙ not-false _ (l .before .if1 .left),
+      eq-eqb _ _ (l .if2 .left),
+      sym (c .before .is-staying .ensures) ∙ c .if3 .left,
+    )
 
 pub early-spec : {M : Type 1} → statement M
 early-spec = tie.close (tie.spec (λ c κs. search needs) returns returns-2 (λ c κs. search needs) returns-3 returns-4)

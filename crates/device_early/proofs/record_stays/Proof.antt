@@ -13,14 +13,16 @@ returns-2 : tie.Need-returns-2
 returns-2 c =
     let u = c .before .before in
     let a = u .before .before .before .args in
-    once-spent (a .careful) (a .capacity) (a .meta .now) (sym (u .before .is-updating .ensures) ∙ u .if1 .left) (sym (c .before .is-spent .ensures) ∙ c .if2 .taken)
+    once-spent (a .careful) (a .capacity) (a .meta .now) (sym (u .before .is-updating .ensures) ∙ u .if1 .left)
+    (sym (c .before .is-spent .ensures) ∙ c .if2 .taken)
 
 returns-3 : tie.Need-returns-3
 returns-3 c =
     let s = c .before .before in
     let u = s .before .before in
     let a = u .before .before .before .args in
-    with-none (a .careful) (a .capacity) (a .meta .now) (sym (u .before .is-updating .ensures) ∙ u .if1 .left) (sym (s .before .is-spent .ensures) ∙ s .if2 .left)
+    with-none (a .careful) (a .capacity) (a .meta .now) (sym (u .before .is-updating .ensures) ∙ u .if1 .left)
+    (sym (s .before .is-spent .ensures) ∙ s .if2 .left)
     (sym (c .before .app-checksum .ensures) ∙ c .if3 .taken)
 
 returns-4 : tie.Need-returns-4
@@ -29,7 +31,8 @@ returns-4 c =
     let s = k .before .before in
     let u = s .before .before in
     let a = u .before .before .before .args in
-    of-no-bytes (a .careful) (a .capacity) (a .meta .now) (sym (u .before .is-updating .ensures) ∙ u .if1 .left) (sym (s .before .is-spent .ensures) ∙ s .if2 .left)
+    of-no-bytes (a .careful) (a .capacity) (a .meta .now) (sym (u .before .is-updating .ensures) ∙ u .if1 .left)
+    (sym (s .before .is-spent .ensures) ∙ s .if2 .left)
     (λ w. k .if3 .left (k .before .app-checksum .ensures ∙ w)) (sym (c .before .app-size .ensures) ∙ c .if4 .taken)
 
 returns-5 : tie.Need-returns-5
@@ -40,7 +43,8 @@ returns-5 c =
     let a = u .before .before .before .args in
     let z = c .before .app-size .ensures in
     rw z
-    (by-size (a .careful) (a .capacity) (a .meta .now) (sym (u .before .is-updating .ensures) ∙ u .if1 .left) (sym (s .before .is-spent .ensures) ∙ s .if2 .left)
+    (by-size (a .careful) (a .capacity) (a .meta .now) (sym (u .before .is-updating .ensures) ∙ u .if1 .left)
+    (sym (s .before .is-spent .ensures) ∙ s .if2 .left)
     (λ w. k .if3 .left (k .before .app-checksum .ensures ∙ w)) (λ w. c .if4 .left (z ∙ w)))
 
 pub record-stays-spec : {M : Type 1} → statement M
