@@ -5,23 +5,21 @@ use mathlib.Core.List.{List, _∷_, _++_}
 use mathlib.Core.Bool.{Bool, true, false, not, _&&_}
 use mathlib.Core.Logic.{_⊎_, inl, inr}
 use native.Mathlib.Omega.{arith}
-use borrow.Author.Tests.{leb-true, eqb-true, eqb-false, eq-eqb, le-ltb}
+use borrow.Author.Tests.{leb-true, eq-eqb, le-ltb}
 use lib.ListN.{length, take, drop, length-drop}
 use lib.Dec.{eqb, leb}
-use Rattle.laws.specs.Pick.{pick}
 use Rattle.laws.proofs.Bools.{and-both}
 use Rattle.wire_frames.specs.declared.frame.Kind.{Kind}
 use Rattle.wire_frames.specs.Fields.{cmdOf}
-use Rattle.wire_frames.specs.Reading.{Outcome, Begun, Ended, readFrame}
+use Rattle.wire_frames.specs.Reading.{Outcome, Begun, Ended, readFrame, kindStatus}
 use Rattle.wire_frames.specs.Stored.{begun, ready, Read, outOf, wellOf, readOf}
-use Rattle.cmd_select.specs.Select.{copied, selectOf}
+use Rattle.cmd_select.specs.Select.{copied}
 use Rattle.device_state.specs.declared.Setup.{Setup}
 use Rattle.device_state.specs.State.{World}
-use Rattle.device_state.specs.Refusals.{eraseSizeFits, capacityFits, fits, setUp, runFits, wellFormed, lengthsOf, refusalOf}
+use Rattle.device_state.specs.Refusals.{eraseSizeFits, capacityFits, fits, runFits, wellFormed, lengthsOf, refusalOf}
 use Rattle.device_turns.specs.declared.Silence.{Silence}
 use Rattle.device_turns.specs.declared.Turn.{Turn}
-use Rattle.device_turns.specs.Turns.{Turned, turned, silent, replies, chosen, damaged, asked, turnOf}
-use Rattle.device_handler.specs.Handling.{bare}
+use Rattle.device_turns.specs.Turns.{Turned, turned, silent, turnOf}
 use Rattle.device_dispatcher.specs.Dispatch.{obeyedOf, idOf, turning, doneOf, afterTurned, dispatchOf}
 use Rattle.device_feed.specs.Feed.{Called, holding, endedBy, afterRead, takenOf, refusalFor, fedOf}
 use Rattle.theorem_streams.proofs.Stored.{ended-kept}
@@ -30,7 +28,8 @@ use Rattle.desk_replies.specs.Replies as desk
 use Rattle.desk_replies.specs.Replies.{hearOf}
 use Rattle.theorem_desk.specs.Meant.{meantAt, meantOf, readIn, meantSaid, meantIn}
 use Rattle.theorem_desk.specs.Desk.{Wide, Heard, repliedWith, RepliesHeard}
-use Rattle.theorem_desk.proofs.Replies.{Claim, Known, Fine, fine-heard, fine-handled, fine-error, fine-chosen}
+use Rattle.theorem_desk.proofs.Turns.{Error, every-turn}
+use Rattle.theorem_desk.proofs.Replies.{Claim, Fine, fine-heard, fine-handled, fine-error, fine-chosen}
 
 -- an answer that tells of a reply
 abbrev Loud : ℕ → Type 0
@@ -54,54 +53,22 @@ module _ (cap page : ℕ) (enough : 18 ≤ cap) (small : cap < 256 ^ 2) (s : Set
       Turns kind (turned (Turn.Reply chosen on wait) g)
   a-reply kind chosen on wait g k h = fine-heard cap small s chosen w synced cmd (doneOf cap page s kind chosen (turning on g w)) k wait room r
 
-  damaged-turns : (kind : Kind) (why : Silence) → ((on : Bool) → Fine cap s false w (doneOf cap page s kind false (turning on f w))) → (on : Bool) →
-      Turns kind (damaged why (s .«id_len») on f)
-  damaged-turns kind why k on = go (eqb (s .«id_len») 0)
-    where
-      go : (t : Bool) → Turns kind (pick t (replies on f) (silent why on f))
-      go true = a-reply kind false on 0 f (k on)
-      go false = no-reply kind why on f
-
   good-fine : (on : Bool) → Fine cap s false w (doneOf cap page s Kind.Good false (turning on f w))
   unfolding obeyedOf
   good-fine on = fine-handled cap page enough small s w wide capacity erase whole on
 
-  asked-turns : (on : Bool) → Turns Kind.Good (asked (s .id) (s .«id_len») f on)
-  unfolding selectOf
-  asked-turns on = go (eqb (s .«id_len») 0) refl (eqb (cmdOf f) 5) refl on
-    where
-      choice : cmdOf f ≡ 5 → (s .«id_len» ≡ 0 → ⊥) → (t : Bool) (wait : ℕ) →
-          Turns Kind.Good (pick t (turned (Turn.Reply true true wait) (copied (idOf s) f)) (silent Silence.SelectWithoutMatch false (copied (idOf s) f)))
-      choice e h true wait =
-          a-reply Kind.Good true true wait (copied (idOf s) f) (fine-chosen cap page enough small s w wide capacity erase whole e (omega arith) named)
-      choice e h false wait = no-reply Kind.Good Silence.SelectWithoutMatch false (copied (idOf s) f)
-
-      go : (a : Bool) → eqb (s .«id_len») 0 ≡ a → (b : Bool) → eqb (cmdOf f) 5 ≡ b → (c : Bool) →
-          Turns Kind.Good
-          (pick a (replies on f) (pick b (chosen (selectOf (take (s .«id_len») (s .id)) f)) (pick c (replies on f) (silent Silence.NotSelected on f))))
-      go true x b y c = a-reply Kind.Good false on 0 f (good-fine on)
-      go false x true y c =
-          choice (eqb-true _ _ y) (eqb-false _ _ x) (selectOf (idOf s) f .match) (selectOf (idOf s) f .wait)
-      go false x false y true = a-reply Kind.Good false on 0 f (good-fine on)
-      go false x false y false = no-reply Kind.Good Silence.NotSelected on f
-
-  -- an error's status is not Ok
-  error-fine : (on : Bool) (status : ℕ) → Known status → (status ≡ 1 → ⊥) → Fine cap s false w (bare status (turning on f w))
-  error-fine = fine-error cap page enough small s w wide capacity erase whole
+  error-fine : (on : Bool) (kind : Kind) → Error kind → Fine cap s false w (doneOf cap page s kind false (turning on f w))
+  unfolding obeyedOf
+  error-fine on kind e =
+      rw (e .bad) (fine-error cap page enough small s w wide capacity erase whole on (kindStatus kind) (e .some, e .known) (e .refused))
 
   turns : (kind : Kind) → Turns kind (turnOf (s .id) (s .«id_len») kind f (w .state .numbers .selected))
-  unfolding turnOf obeyedOf
-  turns Kind.Unsupported =
-      damaged-turns Kind.Unsupported Silence.UnreadableFrame (λ on. error-fine on 5 (omega arith, omega arith) (λ e. omega arith))
-      (w .state .numbers .selected)
-  turns Kind.PayloadOverflow =
-      damaged-turns Kind.PayloadOverflow Silence.UnreadableFrame (λ on. error-fine on 6 (omega arith, omega arith) (λ e. omega arith))
-      (w .state .numbers .selected)
-  turns Kind.Overheard = no-reply Kind.Overheard Silence.OverheardReply (w .state .numbers .selected) f
-  turns Kind.CrcMismatch =
-      damaged-turns Kind.CrcMismatch Silence.WrongCrc (λ on. error-fine on 3 (omega arith, omega arith) (λ e. omega arith))
-      (w .state .numbers .selected)
-  turns Kind.Good = asked-turns (w .state .numbers .selected)
+  turns =
+      let on : Bool = w .state .numbers .selected in
+      every-turn (s .id) (s .«id_len») f on Turns no-reply (λ kind e. a-reply kind false on 0 f (error-fine on kind e))
+      (a-reply Kind.Good false on 0 f (good-fine on))
+      (λ e h wait.
+      a-reply Kind.Good true true wait (copied (idOf s) f) (fine-chosen cap page enough small s w wide capacity erase whole e (omega arith) named))
 
   pub dispatch-heard : (kind : Kind) → Loud (dispatchOf cap page s kind w room .told .number) →
       Claim cap (meantOf cap page s kind w) (dispatchOf cap page s kind w room)
@@ -109,21 +76,19 @@ module _ (cap page : ℕ) (enough : 18 ≤ cap) (small : cap < 256 ^ 2) (s : Set
   dispatch-heard = turns
 
 -- the numbers of a good setup
-numbers-of : (page : ℕ) (s : Setup) → setUp page s ≡ true → (s .«id_len» ≤ 16) × (s .capacity ≤ 65536) × (s .«erase_size» ≤ 32768)
+pub numbers-of : (page size capacity named kind : ℕ) → fits page size capacity named kind ≡ true → (named ≤ 16) × (capacity ≤ 65536) × (size ≤ 32768)
 unfolding fits capacityFits eraseSizeFits
-numbers-of page s e =
-    let size : ℕ = s .«erase_size» in
-    let capacity : ℕ = s .capacity in
+numbers-of page size capacity named kind e =
     let most : Bool = leb capacity 65536 && eqb (capacity % size) 0 in
     let all : Bool = not (eqb size 0) && (not (eqb capacity 0) && most) in
     let erases : Bool = leb size 32768 && eqb (size % page) 0 in
-    let named : Bool = leb (s .«id_len») 16 && leb (s .«start_kind») 1 in
-    let a = and-both (leb page size && erases) (all && named) e in
-    let b = and-both all named (a .1) in
+    let rest : Bool = leb named 16 && leb kind 1 in
+    let a = and-both (leb page size && erases) (all && rest) e in
+    let b = and-both all rest (a .1) in
     let c = and-both (not (eqb size 0)) (not (eqb capacity 0) && most) (b .0) in
     let d = and-both (not (eqb capacity 0)) most (c .1) in
     let h = and-both (leb page size) erases (a .0) in (
-      leb-true (s .«id_len») 16 (and-both (leb (s .«id_len») 16) (leb (s .«start_kind») 1) (b .1) .0),
+      leb-true named 16 (and-both (leb named 16) (leb kind 1) (b .1) .0),
       leb-true capacity 65536 (and-both (leb capacity 65536) (eqb (capacity % size) 0) (d .1) .0),
       leb-true size 32768 (and-both (leb size 32768) (eqb (size % page) 0) (h .1) .0),
     )
@@ -171,7 +136,7 @@ module _ (cap page : ℕ) (enough : 18 ≤ cap) (small : cap < 256 ^ 2) where
           let b = ended-kept cap true (p cap page s w y l room r ++ l) k q t e f₀ a in
           let x : Read = outOf cap f₀ (length l) (Ended k q t) in
           let v : World = holding x w in
-          let n = numbers-of page s (y .setup) in
+          let n = numbers-of page (s .«erase_size») (s .capacity) (s .«id_len») (s .«start_kind») (y .setup) in
           let R : readIn cap w l ≡ x = reads cap page s w y l room r (Ended k q t) e in
           let F : fedOf cap page s w l room ≡ endedBy (x .taken) (dispatchOf cap page s k v room) = calls cap page s w y l room r (Ended k q t) e in
           let M : meantIn cap page s w l ≡ meantOf cap page s k v = ap (λ (z : Read). meantSaid (z .said) cap page s (holding z w)) R in

@@ -3,5 +3,8 @@ pub mod Requests
 pub mod Cut
 pub mod Faults
 pub mod Spoken
+pub mod Fine
+pub mod Turns
 pub mod Replies
 pub mod Heard
+pub mod AppHeard

@@ -1,12 +1,12 @@
 -- Each reply of the bootloader is heard as what it means.
 use Prim.Native.Nat.{ℕ, _+_, _-_, _/_, _%_, _^_, _≤_, _<_}
-use mathlib.Core.Path.{_≡_, refl, ap, sym, subst, _∙_}
+use mathlib.Core.Path.{_≡_, refl, ap, _∙_}
 use mathlib.Core.List.{List, [], _∷_, _++_}
 use mathlib.Core.Bool.{Bool, true, false, not, _&&_, _||_}
 use native.Mathlib.Omega.{arith}
-use borrow.Author.Tests.{eqb-true, eqb-false, ne-eqb, le-leb}
-use lib.ListN.{length, getD, take, drop, set, length-append, length-drop, length-set}
-use lib.Seq.{take-at, drop-at, drop-cons, length-take-le, take-set-le, getD-set-same, getD-set-other}
+use borrow.Author.Tests.{eqb-true, eqb-false, ne-eqb}
+use lib.ListN.{length, getD, take, drop, set, length-set}
+use lib.Seq.{drop-cons, length-take-le, take-set-le, getD-set-same, getD-set-other}
 use lib.Dec.{eqb, ltb}
 use Rattle.laws.specs.Pick.{pick}
 use Rattle.laws.specs.Low.{lowFirst}
@@ -14,11 +14,10 @@ use Rattle.wire_numbers.specs.Crc.{crcOf}
 use Rattle.wire_numbers.proofs.Bytes.{read-back}
 use Rattle.wire_numbers.proofs.Serial.{crc-small}
 use Rattle.wire_info.specs.Info.{infoRead}
-use Rattle.wire_info.specs.declared.InfoData.{InfoData}
 use Rattle.wire_info.proofs.Told.{info-there-and-back}
 use Rattle.wire_frames.specs.Fields.{cmdOf, addrOf, Unsupported}
 use Rattle.store_record.specs.Record.{sizeOf, updating}
-use Rattle.cmd_info.specs.Info.{appVersion, infoOf, infoLaid}
+use Rattle.cmd_info.specs.Info.{appVersion, infoOf}
 use Rattle.store_flash.specs.Flash as flash
 use Rattle.cmd_erase.specs.Erase.{erasedTo, readied, rangeFits, byteCountOf, eraseOf}
 use Rattle.cmd_write.specs.Write.{Run, wroteTo, done, begin, writeFits, writtenOf, writeOf}
@@ -28,14 +27,13 @@ use Rattle.device_state.specs.declared.Setup.{Setup}
 use Rattle.device_state.specs.State.{World, frameSet, metaSet}
 use Rattle.device_handler.specs.Handling.{Obeyed, bare, loaded, afterInfo, afterErase, afterWrite, crcLaid, afterVerify, afterReset, handledOf}
 use Rattle.cmd_select.specs.Select.{copied}
-use Rattle.cmd_select.proofs.Selecting.{copied-length, copied-header, copied-id}
 use Rattle.device_dispatcher.specs.Dispatch.{Ending, answeredOf, idOf, turning}
-use Rattle.device_replies.specs.Reply.{replyOf}
 use Rattle.desk_replies.specs.Replies as desk
-use Rattle.desk_replies.specs.Replies.{Typed, info, verify, select, plain, contentsOf, hearOf}
+use Rattle.desk_replies.specs.Replies.{info, verify, select, plain, hearOf}
 use Rattle.theorem_desk.specs.Meant.{infoMeant, contentsMeant, repliedBy}
 use Rattle.theorem_desk.specs.Desk.{Waiting, Wide, Heard}
-use Rattle.theorem_desk.proofs.Spoken.{head, Answers, spoken-heard}
+use Rattle.theorem_desk.proofs.Fine as fine
+use Rattle.theorem_desk.proofs.Fine.{fine-bare, crc-load}
 
 -- whatever waits hears this of a frame's end
 abbrev pub Claim : ℕ → desk.Told → Ending → Type 0
@@ -43,39 +41,16 @@ Claim cap t e =
     (b : List ℕ) (g : ℕ) → Waiting cap b g → (rest : List ℕ) → Heard t (e .told .len) (hearOf cap b g (take (e .told .len) (e .room) ++ rest))
 
 -- a command as it should reply to the request in the world w
-pub record Fine (cap : ℕ) (s : Setup) (chosen : Bool) (w : World) (x : Obeyed) : Type 0 where
-  pub whole : length (x .left .state .frame) ≡ 12 + cap
-  pub front : take 10 (x .left .state .frame) ≡ take 10 (w .state .frame)
-  pub some : 1 ≤ x .status
-  pub known : x .status ≤ 7
-  pub short : x .len ≤ cap
-  pub load : contentsOf (cmdOf (w .state .frame)) (x .len) (take (x .len) (drop 10 (x .left .state .frame))) ≡ contentsMeant cap s chosen (x .status) w
+abbrev pub Fine : ℕ → Setup → Bool → World → Obeyed → Type 0
+Fine cap s chosen w x = fine.Fine cap (w .state .frame) (x .status) (x .len) (x .left .state .frame) (contentsMeant cap s chosen (x .status) w)
 
 pub fine-heard : (cap : ℕ) → cap < 256 ^ 2 → (s : Setup) (chosen : Bool) (w : World) → w .state .frame ≡ 0xAA ∷ 0x55 ∷ drop 2 (w .state .frame) →
     cmdOf (w .state .frame) ≤ 5 → (x : Obeyed) → Fine cap s chosen w x → (wait : ℕ) (room : List ℕ) → 12 + cap ≤ length room →
     Claim cap (repliedBy cap s chosen w x) (answeredOf cap wait x room)
 unfolding answeredOf
-fine-heard cap z s chosen w y c x k wait room r b g i rest =
-    subst (λ (t : Typed). Answers cap (desk.reply (head (w .state .frame) (x .status) (x .len)) t)
-    (replyOf cap (x .status) (x .len) (x .restart) wait (x .left .state .frame) room)) (k .load)
-    (spoken-heard cap (x .status) (x .len) (x .restart) wait room r (k .some) (k .known) (k .short) z (x .left .state .frame) (w .state .frame) (k .whole)
-    (k .front) y c) b g i rest
-
--- no data are plain, whatever the command
-none-plain : (cmd : ℕ) (d : List ℕ) → contentsOf cmd 0 d ≡ plain d
-unfolding contentsOf
-none-plain cmd d = go (eqb cmd 0) (eqb cmd 3) (eqb cmd 5)
-  where
-    go : (a b c : Bool) →
-        pick (a && false) (info (infoRead d)) (pick (b && false) (verify (lowFirst d)) (pick (c && (false && true)) (select d) (plain d))) ≡ plain d
-    go true true true = refl
-    go true true false = refl
-    go true false true = refl
-    go true false false = refl
-    go false true true = refl
-    go false true false = refl
-    go false false true = refl
-    go false false false = refl
+fine-heard cap z s chosen w y c x k wait room r =
+    fine.fine-heard cap z (w .state .frame) y c (x .status) (x .len) (x .left .state .frame) (contentsMeant cap s chosen (x .status) w) k (x .restart) wait room
+    r
 
 -- a reply without contents
 module _ (cap : ℕ) (s : Setup) (status : ℕ) (w : World) where
@@ -89,19 +64,6 @@ module _ (cap : ℕ) (s : Setup) (status : ℕ) (w : World) where
           (pick (t && false) (verify (crcOf (take (addrOf (w .state .frame)) (w .flash)))) (plain [])) ≡ plain []
       go true = refl
       go false = refl
-
-  -- a status in a frame that is as it was
-  fine-bare : (restart : Bool) (v : World) → v .state .frame ≡ w .state .frame → length (w .state .frame) ≡ 12 + cap → 1 ≤ status → status ≤ 7 →
-      contentsMeant cap s false status w ≡ plain [] → Fine cap s false w (record { status = status; len = 0; restart = restart; left = v })
-  fine-bare restart v e l a b m =
-      record {
-        whole = ap length e ∙ l;
-        front = ap (take 10) e;
-        some = a;
-        known = b;
-        short = omega arith;
-        load = none-plain (cmdOf (w .state .frame)) [] ∙ sym m;
-      }
 
 -- the statuses of the commands
 abbrev pub Known : ℕ → Type 0
@@ -156,20 +118,6 @@ verify-known key capacity f flash meta =
     go false false true = ((omega arith, omega arith), λ e. absurd (omega arith))
     go false false false = ((omega arith, omega arith), λ e. refl)
 
--- contents, by command and length
-info-load : (cmd : ℕ) (d : List ℕ) (m : InfoData) (y : Typed) → cmd ≡ 0 → infoRead d ≡ m → contentsOf cmd 18 d ≡ pick (eqb 1 1 && eqb cmd 0) (info m) y
-unfolding contentsOf
-info-load cmd d m y e k = rw e (ap info k)
-
-crc-load : (cmd : ℕ) (d : List ℕ) (c : ℕ) (x y : Typed) → cmd ≡ 3 → lowFirst d ≡ c →
-    contentsOf cmd 2 d ≡ pick (eqb 1 1 && eqb cmd 0) x (pick (eqb 1 1 && eqb cmd 3) (verify c) y)
-unfolding contentsOf
-crc-load cmd d c x y e k = rw e (ap verify k)
-
-id-load : (cmd n : ℕ) (d : List ℕ) → cmd ≡ 5 → 1 ≤ n → n ≤ 16 → contentsOf cmd n d ≡ select d
-unfolding contentsOf
-id-load cmd n d e a b = rw (e, le-leb 1 n a, le-leb n 16 b) refl
-
 version-small : (capacity : ℕ) (flash meta : List ℕ) → ((i : ℕ) → getD flash i 0xFF < 256) → appVersion capacity flash meta < 256 ^ 2
 unfolding appVersion
 version-small capacity flash meta h = go (ltb (sizeOf meta) 2 || ltb capacity (sizeOf meta))
@@ -194,9 +142,6 @@ module _ (cap page : ℕ) (enough : 18 ≤ cap) (small : cap < 256 ^ 2) (s : Set
   abbrev i : List ℕ
   i = infoOf cap (s .capacity) (s .«erase_size») (s .version) (s .key) (w .flash) (w .meta)
 
-  header : length (take 10 f) ≡ 10
-  header = length-take-le 10 f (omega arith)
-
   read-info : infoRead i ≡ infoMeant cap s w
   unfolding infoOf
   read-info =
@@ -208,16 +153,7 @@ module _ (cap page : ℕ) (enough : 18 ≤ cap) (small : cap < 256 ^ 2) (s : Set
   info-long = refl
 
   fine-info : (on : Bool) → n ≡ 0 → Fine cap s false w (afterInfo cap s (v on))
-  fine-info on e =
-      let d : take 18 (drop 10 (infoLaid f i)) ≡ i = rw (drop-at (take 10 f) (i ++ drop 28 f) 10 header) (take-at i (drop 28 f) 18 info-long) in
-      record {
-        whole = simp (length-append, header, info-long, length-drop) (omega arith);
-        front = take-at (take 10 f) (i ++ drop 28 f) 10 header;
-        some = omega arith;
-        known = omega arith;
-        short = enough;
-        load = info-load n (take 18 (drop 10 (infoLaid f i))) (infoMeant cap s w) _ e (ap infoRead d ∙ read-info);
-      }
+  fine-info on e = fine.fine-info cap enough f i (infoMeant cap s w) _ whole e info-long read-info
 
   -- Verify
   abbrev p : Verified
@@ -256,12 +192,11 @@ module _ (cap page : ℕ) (enough : 18 ≤ cap) (small : cap < 256 ^ 2) (s : Set
       go true x = fine-crc on e (eqb-true _ _ x)
       go false x =
           let k = verify-known (s .key) (s .capacity) f (w .flash) (w .meta) .0 in
-          fine-bare cap s (p .status) w false (metaSet (p .meta) (v on)) refl whole (k .0) (k .1) (refused-meant cap s (p .status) w (eqb-false _ _ x))
+          fine-bare cap f (p .status) f _ refl whole (k .0) (k .1) (refused-meant cap s (p .status) w (eqb-false _ _ x))
 
   -- a command that is neither
-  fine-other : (status : ℕ) (restart : Bool) (u : World) → u .state .frame ≡ f → Known status → (n ≡ 0 → ⊥) → (n ≡ 3 → ⊥) →
-      Fine cap s false w (record { status = status; len = 0; restart = restart; left = u })
-  fine-other status restart u e k a b = fine-bare cap s status w restart u e whole (k .0) (k .1) (other-meant cap s status w a b)
+  fine-other : (status : ℕ) → Known status → (n ≡ 0 → ⊥) → (n ≡ 3 → ⊥) → fine.Fine cap f status 0 f (contentsMeant cap s false status w)
+  fine-other status k a b = fine-bare cap f status f _ refl whole (k .0) (k .1) (other-meant cap s status w a b)
 
   pub fine-handled : (on : Bool) → Fine cap s false w (handledOf cap page s (v on))
   unfolding handledOf
@@ -279,30 +214,23 @@ module _ (cap page : ℕ) (enough : 18 ≤ cap) (small : cap < 256 ^ 2) (s : Set
       go true x b y c z d u e t = fine-info on (eqb-true _ _ x)
       go false x true y c z d u e t =
           let k : n ≡ 1 = eqb-true _ _ y in
-          fine-other _ false _ refl (erase-known page (s .«erase_size») (s .capacity) f (w .flash) (w .meta)) (eqb-false _ _ x) (λ h. omega arith)
+          fine-other _ (erase-known page (s .«erase_size») (s .capacity) f (w .flash) (w .meta)) (eqb-false _ _ x) (λ h. omega arith)
       go false x false y true z d u e t =
           let k : n ≡ 2 = eqb-true _ _ z in
-          fine-other _ false _ refl
+          fine-other _
           (write-known page (s .capacity) f (w .flash) (w .state .page) (w .state .numbers .fill) (w .state .numbers .next) (w .meta))
           (eqb-false _ _ x) (λ h. omega arith)
       go false x false y false z true u e t = fine-verify on (eqb-true _ _ u)
       go false x false y false z false u true t =
-          fine-other _ _ _ refl (reset-known f (w .flash) (w .meta)) (eqb-false _ _ x) (eqb-false _ _ u)
-      go false x false y false z false u false t = fine-other 5 false _ refl (omega arith, omega arith) (eqb-false _ _ x) (eqb-false _ _ u)
+          fine-other _ (reset-known f (w .flash) (w .meta)) (eqb-false _ _ x) (eqb-false _ _ u)
+      go false x false y false z false u false t = fine-other 5 (omega arith, omega arith) (eqb-false _ _ x) (eqb-false _ _ u)
 
   -- a frame's error, a status that is not Ok
   pub fine-error : (on : Bool) (status : ℕ) → Known status → (status ≡ 1 → ⊥) → Fine cap s false w (bare status (v on))
-  fine-error on status k h = fine-bare cap s status w false (v on) refl whole (k .0) (k .1) (refused-meant cap s status w h)
+  fine-error on status k h = fine-bare cap f status f _ refl whole (k .0) (k .1) (refused-meant cap s status w h)
 
   -- who was chosen
   pub fine-chosen : n ≡ 5 → 1 ≤ s .«id_len» → s .«id_len» ≤ 16 → Fine cap s true w (loaded (length (idOf s)) (turning true (copied (idOf s) f) w))
   fine-chosen e a b =
       let l : length (idOf s) ≡ s .«id_len» = length-take-le (s .«id_len») (s .id) (rw (wide .id) b) in
-      record {
-        whole = copied-length (idOf s) f (omega arith) ∙ whole;
-        front = copied-header (idOf s) f (omega arith);
-        some = omega arith;
-        known = omega arith;
-        short = omega arith;
-        load = id-load n (length (idOf s)) _ e (omega arith) (omega arith) ∙ ap select (copied-id (idOf s) f (omega arith));
-      }
+      fine.fine-chosen cap enough f (idOf s) whole e (omega arith) (omega arith)

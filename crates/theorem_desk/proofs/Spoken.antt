@@ -10,7 +10,7 @@ use lib.Seq.{take-at, drop-cons, getD-take}
 use lib.Dec.{eqb}
 use Rattle.laws.specs.Over.{over}
 use Rattle.wire_numbers.proofs.Bytes.{read-back}
-use Rattle.wire_frames.specs.Fields.{cmdOf, statusOf, addrOf, flagsOf, lenOf, dataOf}
+use Rattle.wire_frames.specs.Fields.{cmdOf, statusOf, lenOf, dataOf}
 use Rattle.wire_frames.specs.Reading.{overhears}
 use Rattle.wire_frames.specs.Stored.{ready, store}
 use Rattle.wire_sender.specs.Sent.{wire, sealed, sent, sendOf}
@@ -19,16 +19,13 @@ use Rattle.device_replies.specs.Reply.{headed, saidBy, Spoken, replyOf}
 use Rattle.desk_replies.specs.declared.Head.{Head}
 use Rattle.desk_replies.specs.Replies as desk
 use Rattle.desk_replies.specs.Replies.{contentsOf, reply, goodOf, headOf, hearingOf, hearOf}
+use Rattle.theorem_desk.specs.Meant.{headMeant}
 use Rattle.theorem_desk.specs.Desk.{Waiting, Heard}
 use Rattle.theorem_desk.proofs.WireRead as wired
 
--- the numbers of a reply to the frame f
-abbrev pub head : List ℕ → ℕ → ℕ → Head
-head f status len = record { cmd = cmdOf f; status = status; addr = addrOf f; flags = flagsOf f; len = len }
-
 -- what the desk is to hear of it
 abbrev pub told : List ℕ → ℕ → ℕ → desk.Told
-told f status len = reply (head f status len) (contentsOf (cmdOf f) len (take len (drop 10 f)))
+told f status len = reply (headMeant f status len) (contentsOf (cmdOf f) len (take len (drop 10 f)))
 
 -- a good frame whose status is not 0, of its numbers
 good-reply : (f : List ℕ) (h : Head) (d : List ℕ) → headOf f ≡ h → dataOf f ≡ d → (h .status ≡ 0 → ⊥) → goodOf f ≡ reply h (contentsOf (h .cmd) (h .len) d)
@@ -68,7 +65,7 @@ module _ (cap a2 a3 a4 a5 a6 a7 a8 a9 : ℕ) (y : List ℕ) (status len : ℕ) w
       at : (j : ℕ) → j < 10 → getD (take (10 + len) q ++ x) j 0 ≡ getD q j 0
       at = wired.at q x len (sym size) long
 
-      same-head : headOf (take (10 + len) q ++ x) ≡ head f status len
+      same-head : headOf (take (10 + len) q ++ x) ≡ headMeant f status len
       same-head =
           simp (
             at 2 (omega arith),
@@ -83,7 +80,8 @@ module _ (cap a2 a3 a4 a5 a6 a7 a8 a9 : ℕ) (y : List ℕ) (status len : ℕ) w
       says : goodOf (store cap (ready b) (wire len q)) ≡ told f status len
       says =
           ap goodOf (wired.stored cap false q (drop 2 q) len refl size long c u k desk-reads (ready b)) ∙
-          good-reply (take (10 + len) q ++ x) (head f status len) (take len (drop 10 q)) same-head (wired.same-load q x len (sym size) long) (λ e. omega arith)
+          good-reply (take (10 + len) q ++ x) (headMeant f status len) (take len (drop 10 q)) same-head (wired.same-load q x len (sym size) long)
+          (λ e. omega arith)
 
       pub wire-heard : Heard (told f status len) (12 + len) (hearOf cap b g (wire len q ++ rest))
       wire-heard = rw heard (record { taken = refl; got = refl; told = says })
@@ -151,7 +149,7 @@ module _ (cap status len : ℕ) (due : Bool) (wait : ℕ) (room : List ℕ) (r :
   same : (i : ℕ) → i < 10 → getD f i 0 ≡ getD g i 0
   same = front-at f g front
 
-  pub spoken-heard : Answers cap (reply (head g status len) (contentsOf (cmdOf g) len (take len (drop 10 f)))) (replyOf cap status len due wait f room)
+  pub spoken-heard : Answers cap (reply (headMeant g status len) (contentsOf (cmdOf g) len (take len (drop 10 f)))) (replyOf cap status len due wait f room)
   spoken-heard =
       let a : getD f 0 0 ≡ 0xAA = same 0 (omega arith) ∙ ap (λ (l : List ℕ). getD l 0 0) synced in
       let b : getD f 1 0 ≡ 0x55 = same 1 (omega arith) ∙ ap (λ (l : List ℕ). getD l 1 0) synced in
@@ -159,7 +157,7 @@ module _ (cap status len : ℕ) (due : Bool) (wait : ℕ) (room : List ℕ) (r :
       let s =
       literal cap status len due wait room r t u k z (getD f 2 0) (getD f 3 0) (getD f 4 0) (getD f 5 0) (getD f 6 0) (getD f 7 0) (getD f 8 0) (getD f 9 0)
       (drop 10 f) (omega arith) (rw (same 2 (omega arith)) c) in
-      let e : told f status len ≡ reply (head g status len) (contentsOf (cmdOf g) len (take len (drop 10 f))) =
+      let e : told f status len ≡ reply (headMeant g status len) (contentsOf (cmdOf g) len (take len (drop 10 f))) =
       simp (same 2 (omega arith), same 4 (omega arith), same 5 (omega arith), same 6 (omega arith), same 7 (omega arith)) in
       subst (λ (v : desk.Told). Answers cap v (replyOf cap status len due wait f room)) e
       (subst (Speaks cap status len due wait room r t u k z) (sym (ten f (omega arith) a b)) s)

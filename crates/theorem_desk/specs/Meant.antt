@@ -20,6 +20,7 @@ use Rattle.device_turns.specs.Turns.{Turned, turnOf}
 use Rattle.device_handler.specs.Handling.{Obeyed}
 use Rattle.device_dispatcher.specs.Dispatch.{idOf, turning, doneOf}
 use Rattle.device_feed.specs.Feed.{holding}
+use Rattle.desk_replies.specs.declared.Head.{Head}
 use Rattle.desk_replies.specs.Replies.{Typed, info, verify, select, plain, Told, nothing, reply}
 
 -- Info: the setup's numbers, the app's version, mode 0, the record's baud
@@ -45,18 +46,12 @@ contentsMeant cap s chosen status w =
     if eqb status Ok && eqb (cmdOf (w .state .frame)) 3 then verify (crcOf (take (addrOf (w .state .frame)) (w .flash))) else
     plain []
 
--- a reply keeps the request's command, address and flags
+-- a reply keeps the command, address and flags of the request in the frame
+abbrev pub headMeant : List ℕ → ℕ → ℕ → Head
+headMeant f status len = record { cmd = cmdOf f; status = status; addr = addrOf f; flags = flagsOf f; len = len }
+
 abbrev pub repliedBy : ℕ → Setup → Bool → World → Obeyed → Told
-repliedBy cap s chosen w x =
-    reply
-    (record {
-      cmd = cmdOf (w .state .frame);
-      status = x .status;
-      addr = addrOf (w .state .frame);
-      flags = flagsOf (w .state .frame);
-      len = x .len;
-    })
-    (contentsMeant cap s chosen (x .status) w)
+repliedBy cap s chosen w x = reply (headMeant (w .state .frame) (x .status) (x .len)) (contentsMeant cap s chosen (x .status) w)
 
 abbrev pub meantBy : ℕ → ℕ → Setup → Kind → World → List ℕ → Turn → Told
 meantBy cap page s kind w f (Turn.Silent why on) = nothing
