@@ -8,7 +8,7 @@ use Rattle.laws.specs.Pick.{pick}
 use Rattle.bench.specs.Digits.{between}
 use Rattle.bench.specs.Numbers.{at1, at2, at4}
 
--- whether a line of this letter may have n bytes: in this order s n c m f r p q b x o d t j e a k g y v, and no other letter is one
+-- whether a line of this letter may have n bytes: in this order s n c m f r p q b x o d t j e a k g y v w h u, and no other letter is one
 unfoldable pub carried : ℕ → ℕ → Bool
 carried letter n =
     pick (eqb letter 115) (between 31 32 n)
@@ -31,7 +31,10 @@ carried letter n =
     (pick (eqb letter 103) (between 1 1 n)
     (pick (eqb letter 121) (between 1 1 n)
     (pick (eqb letter 118) (between 1 1 n)
-    false)))))))))))))))))))
+    (pick (eqb letter 119) (between 6 4096 n)
+    (pick (eqb letter 104) (between 0 4096 n)
+    (pick (eqb letter 117) (between 6 4096 n)
+    false))))))))))))))))))))))
 
 -- a field of the state that is a number, 0 to 2; of an app only 0, since it writes nothing
 abbrev pub counted : Bool → ℕ → Bool
@@ -41,8 +44,8 @@ counted runs field = pick runs (eqb field 0) true
 abbrev pub settable : Bool → ℕ → ℕ → Bool
 settable runs field value = pick (ltb field 3) (counted runs field) (leb field 4 && leb value 1)
 
--- whether a line's numbers are within their limits, in this order n c m f p q b j e g y v: the lengths of the buffers, what a field takes, the modes 0
--- and 1, the steps of a rewrite, the rates, the entries of a list
+-- whether a line's numbers are within their limits, in this order n c m f p q b j e g y v w u: the lengths of the buffers, what a field takes, the modes 0
+-- and 1, the steps of a rewrite, the rates, the entries of a list, the commands
 unfoldable pub within : Bool → ℕ → List ℕ → Bool
 within runs letter l =
     pick (eqb letter 110) (leb (at4 l 0) 65600)
@@ -57,7 +60,9 @@ within runs letter l =
     (pick (eqb letter 103) (leb (at1 l 0) 13)
     (pick (eqb letter 121) (leb (at1 l 0) 13)
     (pick (eqb letter 118) (leb (at1 l 0) 16)
-    true)))))))))))
+    (pick (eqb letter 119) (leb (at1 l 0) 5)
+    (pick (eqb letter 117) (leb (at1 l 0) 5)
+    true)))))))))))))
 
 -- both
 abbrev pub allowed : Bool → ℕ → List ℕ → Bool

@@ -20,12 +20,7 @@ fn summed(out: &mut [u8], at: usize, name: &[u8], s: &[u8]) -> usize {
 // A name alone where there are no bytes.
 fn listed(out: &mut [u8], at: usize, name: &[u8], s: &[u8]) -> usize {
     let at = show::text(out, at, name);
-    if s.len() == 0 {
-        return show::byte(out, at, b'\n');
-    }
-    let at = show::byte(out, at, b' ');
-    let at = show::hex(out, at, s);
-    show::byte(out, at, b'\n')
+    show::end(out, at, s)
 }
 
 fn pending(out: &mut [u8], at: usize, next: u32) -> usize {

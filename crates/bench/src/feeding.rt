@@ -1,5 +1,6 @@
 // Bytes fed to the module, or to the app.
 use crate::app;
+use crate::hearing;
 use crate::module;
 use crate::module::Bench;
 use crate::show;
@@ -20,16 +21,6 @@ struct Called {
     more: bool,
 }
 
-// The reply's bytes, where there are any, after a blank.
-fn replied(out: &mut [u8], at: usize, reply: &[u8]) -> usize {
-    if reply.len() == 0 {
-        return show::byte(out, at, b'\n');
-    }
-    let at = show::byte(out, at, b' ');
-    let at = show::hex(out, at, reply);
-    show::byte(out, at, b'\n')
-}
-
 // Which answer it is, the bytes taken, the reply's length, and the wait.
 fn counted(out: &mut [u8], at: usize, said: Said, taken: usize) -> usize {
     let at = show::decimal(out, at, said.number as u64);
@@ -43,7 +34,7 @@ fn tell(out: &mut [u8], at: usize, said: Said, taken: usize, room: &[u8]) -> usi
     let at = show::byte(out, at, b' ');
     let at = starting::mode(out, at, starting::mode_of(said.mode));
     let at = silence::reason(out, at, said.why);
-    replied(out, at, first(room, said.len))
+    show::end(out, at, first(room, said.len))
 }
 
 // The bootloader's call, on what is lent.
@@ -89,6 +80,23 @@ fn fed(
     boot_fed(bench, bytes, f, page, flash, meta, room)
 }
 
+// The call's line, and what the desk hears of its reply.
+fn told(bench: Bench, p: Passed, room: &[u8], out: &mut [u8]) -> Called {
+    let mut bench = bench;
+    let answer = p.answer;
+    let s = numbers_of(answer);
+    let at = tell(out, bench.out, s, p.taken, room);
+    let n = p.numbers;
+    bench.numbers = n;
+    bench.out = at;
+    let after = hearing::replied(bench, first(room, s.len), out);
+    Called {
+        bench: after,
+        taken: p.taken,
+        more: s.number < 3,
+    }
+}
+
 // One call, and its line.
 fn call(
     bench: Bench,
@@ -102,18 +110,8 @@ fn call(
     let mut bench = bench;
     let mut meta = bench.meta;
     let p = fed(bench, bytes, f, page, flash, &mut meta, room);
-    let answer = p.answer;
-    let s = numbers_of(answer);
-    let at = tell(out, bench.out, s, p.taken, room);
-    let n = p.numbers;
-    bench.numbers = n;
     bench.meta = meta;
-    bench.out = at;
-    Called {
-        bench: bench,
-        taken: p.taken,
-        more: s.number < 3,
-    }
+    told(bench, p, room, out)
 }
 
 pub(crate) fn once(

@@ -19,6 +19,9 @@ pub const ROOM: usize = 512;
 // The entries that a list for a mend may have.
 pub const MOST_ENTRIES: u8 = 16;
 
+// The last command that there is.
+pub const LAST_COMMAND: u8 = 5;
+
 // The bytes of a line, and the characters of a text.
 pub const LINE: usize = 4096;
 
@@ -68,6 +71,9 @@ pub(crate) fn count_of(letter: u8) -> Count
         b'g' => from_to(1, 1),
         b'y' => from_to(1, 1),
         b'v' => from_to(1, 1),
+        b'w' => from_to(6, LINE),
+        b'h' => from_to(0, LINE),
+        b'u' => from_to(6, LINE),
         _ => from_to(1, 0),
     }
 }
@@ -142,6 +148,8 @@ fn is_within(runs: bool, letter: u8, bytes: &[u8]) -> bool
         b'g' => byte_at(bytes, 0) <= 13,
         b'y' => byte_at(bytes, 0) <= 13,
         b'v' => byte_at(bytes, 0) <= MOST_ENTRIES,
+        b'w' => byte_at(bytes, 0) <= LAST_COMMAND,
+        b'u' => byte_at(bytes, 0) <= LAST_COMMAND,
         _ => true,
     }
 }

@@ -1,10 +1,12 @@
 // One module on the bench, driven by a script on standard input: docs/BENCH.md has its language.
 mod app;
+mod asking;
 mod cutting;
 mod digits;
 mod dump;
 mod early;
 mod feeding;
+mod hearing;
 mod input;
 mod limits;
 mod line;
@@ -17,6 +19,7 @@ mod show;
 mod silence;
 mod starting;
 mod words;
+mod writing;
 
 use store_flash::storage::PAGE_SIZE;
 use wire_frames::frame::FRAME;

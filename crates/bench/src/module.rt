@@ -12,6 +12,7 @@ use store_flash::cells::lay;
 use store_flash::storage::PAGE_SIZE;
 use store_flash::storage::Page;
 use wire_frames::frame::FRAME;
+use wire_frames::frame::Frame;
 use wire_frames::frame::FrameBytes;
 use wire_numbers::COMPAT_UNSET;
 ghost use Prim.Native.Nat.{_≤_};
@@ -25,6 +26,9 @@ pub struct Bench {
     pub app_version: u16,
     // The record's bytes.
     pub meta: [u8; limits::RECORD],
+    // The frame that the desk hears, and whether the module's replies are put to it.
+    pub desk: Frame,
+    pub asks: bool,
     // How much is lent of each.
     pub flash: usize,
     pub record: usize,
@@ -126,12 +130,15 @@ pub(crate) fn renewed(
     let state = new_state(false);
     let n = state.numbers;
     let meta = [0xFFu8; limits::RECORD];
+    let desk = Frame::new();
     let bench = Bench {
         setup: setup,
         numbers: n,
         runs: false,
         app_version: 0,
         meta: meta,
+        desk: desk,
+        asks: false,
         flash: least(setup.capacity, limits::FLASH),
         record: 12,
         room: FRAME,

@@ -1,9 +1,11 @@
 // The script: a line is read whole before it acts.
 use crate::app;
+use crate::asking;
 use crate::cutting;
 use crate::dump;
 use crate::early;
 use crate::feeding;
+use crate::hearing;
 use crate::input;
 use crate::limits;
 use crate::line::Line;
@@ -15,6 +17,7 @@ use crate::rates;
 use crate::show;
 use crate::starting;
 use crate::words;
+use crate::writing;
 use store_flash::cells::byte_at;
 use store_flash::cells::first;
 use store_flash::cells::lay;
@@ -95,7 +98,7 @@ fn store(bench: Bench, letter: u8, bytes: &[u8], f: &mut FrameBytes, flash: &mut
     }
 }
 
-// A new bench, and the lines that the module's calls answer: `b`, `o` and `x`.
+// A new bench, and the lines that the module's calls answer: `b`, `o`, `x` and `u`.
 fn drive(
     bench: Bench,
     letter: u8,
@@ -112,6 +115,7 @@ fn drive(
             module::renewed(setup, bench.out, f, page, flash, room)
         }
         b'b' => starting::begin(bench, byte_at(bytes, 0), f, page, flash, out),
+        b'u' => asking::ask(bench, bytes, f, page, flash, room, out),
         b'o' => feeding::once(bench, bytes, f, page, flash, room, out),
         _ => feeding::all(bench, bytes, f, page, flash, room, out),
     }
@@ -136,6 +140,8 @@ fn act(
         b'j' => cutting::cut(bench, bytes),
         b'e' => early::tell(bench, byte_at(bytes, 0), out),
         b'v' => mending::mended(bench, byte_at(bytes, 0), out),
+        b'w' => writing::only(bench, bytes, room, out),
+        b'h' => hearing::hear(bench, bytes, out),
         b'a' => app::begin(bench, numbers::two(bytes, 0), f),
         b'k' | b'g' | b'y' => rates::ask(bench, letter, byte_at(bytes, 0), out),
         _ => drive(bench, letter, bytes, f, page, flash, room, out),

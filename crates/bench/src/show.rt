@@ -55,6 +55,16 @@ pub(crate) fn hex(out: &mut [u8], at: usize, s: &[u8]) -> usize {
     at
 }
 
+// The bytes, where there are any, after a blank; and the line's end.
+pub(crate) fn end(out: &mut [u8], at: usize, s: &[u8]) -> usize {
+    if s.len() == 0 {
+        return byte(out, at, b'\n');
+    }
+    let at = byte(out, at, b' ');
+    let at = hex(out, at, s);
+    byte(out, at, b'\n')
+}
+
 // Four digits.
 pub(crate) fn hex16(out: &mut [u8], at: usize, v: u16) -> usize {
     let at = pair(out, at, (v / 256) as u8);

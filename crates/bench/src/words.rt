@@ -41,6 +41,7 @@ fn number(out: &mut [u8], at: usize, letter: u8, bytes: &[u8]) -> usize {
         b'q' => past(out, at, FRAME),
         b'b' | b'e' => show::text(out, at, b"no such mode"),
         b'g' | b'y' => show::text(out, at, b"no such rate"),
+        b'w' | b'u' => show::text(out, at, b"no such command"),
         b'j' => more(out, at, STEPS as usize),
         b'v' => more(out, at, limits::MOST_ENTRIES as usize),
         _ => field(out, at, byte_at(bytes, 0)),

@@ -100,36 +100,54 @@ returns-20 c n = rw (c .before .match .keys20, c .from-to20 .ensures .0, c .from
 
 returns-21 : tie.Need-returns-21
 unfolding carried
-returns-21 c n =
+returns-21 c n = rw (c .before .match .keys21, c .from-to21 .ensures .0, c .from-to21 .ensures .1)
+
+returns-22 : tie.Need-returns-22
+unfolding carried
+returns-22 c n = rw (c .before .match .keys22, c .from-to22 .ensures .0, c .from-to22 .ensures .1)
+
+returns-23 : tie.Need-returns-23
+unfolding carried
+returns-23 c n = rw (c .before .match .keys23, c .from-to23 .ensures .0, c .from-to23 .ensures .1)
+
+returns-24 : tie.Need-returns-24
+unfolding carried
+returns-24 c n =
     let letter = c .before .before .args .letter in
     let rest = c .before .match .rest in
-    rw (c .from-to21 .ensures .0, c .from-to21 .ensures .1, none n) (simp (
-      ne-eqb letter 115 (rest .0 .0 .0 .0 .0 .0 .0 .0 .0 .0 .0 .0 .0 .0 .0 .0 .0 .0 .0 .1),
-      ne-eqb letter 110 (rest .0 .0 .0 .0 .0 .0 .0 .0 .0 .0 .0 .0 .0 .0 .0 .0 .0 .0 .1),
-      ne-eqb letter 99 (rest .0 .0 .0 .0 .0 .0 .0 .0 .0 .0 .0 .0 .0 .0 .0 .0 .0 .1),
-      ne-eqb letter 109 (rest .0 .0 .0 .0 .0 .0 .0 .0 .0 .0 .0 .0 .0 .0 .0 .0 .1),
-      ne-eqb letter 102 (rest .0 .0 .0 .0 .0 .0 .0 .0 .0 .0 .0 .0 .0 .0 .0 .1),
-      ne-eqb letter 114 (rest .0 .0 .0 .0 .0 .0 .0 .0 .0 .0 .0 .0 .0 .0 .1),
-      ne-eqb letter 112 (rest .0 .0 .0 .0 .0 .0 .0 .0 .0 .0 .0 .0 .0 .1),
-      ne-eqb letter 113 (rest .0 .0 .0 .0 .0 .0 .0 .0 .0 .0 .0 .0 .1),
-      ne-eqb letter 98 (rest .0 .0 .0 .0 .0 .0 .0 .0 .0 .0 .0 .1),
-      ne-eqb letter 120 (rest .0 .0 .0 .0 .0 .0 .0 .0 .0 .0 .1),
-      ne-eqb letter 111 (rest .0 .0 .0 .0 .0 .0 .0 .0 .0 .1),
-      ne-eqb letter 100 (rest .0 .0 .0 .0 .0 .0 .0 .0 .1),
-      ne-eqb letter 116 (rest .0 .0 .0 .0 .0 .0 .0 .1),
-      ne-eqb letter 106 (rest .0 .0 .0 .0 .0 .0 .1),
-      ne-eqb letter 101 (rest .0 .0 .0 .0 .0 .1),
-      ne-eqb letter 97 (rest .0 .0 .0 .0 .1),
-      ne-eqb letter 107 (rest .0 .0 .0 .1),
-      ne-eqb letter 103 (rest .0 .0 .1),
-      ne-eqb letter 121 (rest .0 .1),
-      ne-eqb letter 118 (rest .1),
+    rw (c .from-to24 .ensures .0, c .from-to24 .ensures .1, none n) (simp (
+      ne-eqb letter 115 (rest .0 .0 .0 .0 .0 .0 .0 .0 .0 .0 .0 .0 .0 .0 .0 .0 .0 .0 .0 .0 .0 .0 .1),
+      ne-eqb letter 110 (rest .0 .0 .0 .0 .0 .0 .0 .0 .0 .0 .0 .0 .0 .0 .0 .0 .0 .0 .0 .0 .0 .1),
+      ne-eqb letter 99 (rest .0 .0 .0 .0 .0 .0 .0 .0 .0 .0 .0 .0 .0 .0 .0 .0 .0 .0 .0 .0 .1),
+      ne-eqb letter 109 (rest .0 .0 .0 .0 .0 .0 .0 .0 .0 .0 .0 .0 .0 .0 .0 .0 .0 .0 .0 .1),
+      ne-eqb letter 102 (rest .0 .0 .0 .0 .0 .0 .0 .0 .0 .0 .0 .0 .0 .0 .0 .0 .0 .0 .1),
+      ne-eqb letter 114 (rest .0 .0 .0 .0 .0 .0 .0 .0 .0 .0 .0 .0 .0 .0 .0 .0 .0 .1),
+      ne-eqb letter 112 (rest .0 .0 .0 .0 .0 .0 .0 .0 .0 .0 .0 .0 .0 .0 .0 .0 .1),
+      ne-eqb letter 113 (rest .0 .0 .0 .0 .0 .0 .0 .0 .0 .0 .0 .0 .0 .0 .0 .1),
+      ne-eqb letter 98 (rest .0 .0 .0 .0 .0 .0 .0 .0 .0 .0 .0 .0 .0 .0 .1),
+      ne-eqb letter 120 (rest .0 .0 .0 .0 .0 .0 .0 .0 .0 .0 .0 .0 .0 .1),
+      ne-eqb letter 111 (rest .0 .0 .0 .0 .0 .0 .0 .0 .0 .0 .0 .0 .1),
+      ne-eqb letter 100 (rest .0 .0 .0 .0 .0 .0 .0 .0 .0 .0 .0 .1),
+      ne-eqb letter 116 (rest .0 .0 .0 .0 .0 .0 .0 .0 .0 .0 .1),
+      ne-eqb letter 106 (rest .0 .0 .0 .0 .0 .0 .0 .0 .0 .1),
+      ne-eqb letter 101 (rest .0 .0 .0 .0 .0 .0 .0 .0 .1),
+      ne-eqb letter 97 (rest .0 .0 .0 .0 .0 .0 .0 .1),
+      ne-eqb letter 107 (rest .0 .0 .0 .0 .0 .0 .1),
+      ne-eqb letter 103 (rest .0 .0 .0 .0 .0 .1),
+      ne-eqb letter 121 (rest .0 .0 .0 .0 .1),
+      ne-eqb letter 118 (rest .0 .0 .0 .1),
+      ne-eqb letter 119 (rest .0 .0 .1),
+      ne-eqb letter 104 (rest .0 .1),
+      ne-eqb letter 117 (rest .1),
     ))
 
 pub count-of-spec : {M : Type 1} → statement M
 count-of-spec =
     tie.close
     (tie.spec
+    (λ c κs. search needs)
+    (λ c κs. search needs)
+    (λ c κs. search needs)
     (λ c κs. search needs)
     (λ c κs. search needs)
     (λ c κs. search needs)
@@ -171,4 +189,7 @@ count-of-spec =
     returns-18
     returns-19
     returns-20
-    returns-21)
+    returns-21
+    returns-22
+    returns-23
+    returns-24)

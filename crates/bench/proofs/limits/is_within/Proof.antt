@@ -55,20 +55,30 @@ returns-12 c = rw (c .before .match .keys12, c .byte-at9 .ensures)
 
 returns-13 : tie.Need-returns-13
 unfolding within
-returns-13 c =
+returns-13 c = rw (c .before .match .keys13, c .byte-at10 .ensures)
+
+returns-14 : tie.Need-returns-14
+unfolding within
+returns-14 c = rw (c .before .match .keys14, c .byte-at11 .ensures)
+
+returns-15 : tie.Need-returns-15
+unfolding within
+returns-15 c =
     simp (
-      ne-eqb (c .before .before .args .letter) 110 (c .match .rest .0 .0 .0 .0 .0 .0 .0 .0 .0 .0 .0 .1),
-      ne-eqb (c .before .before .args .letter) 99 (c .match .rest .0 .0 .0 .0 .0 .0 .0 .0 .0 .0 .1),
-      ne-eqb (c .before .before .args .letter) 109 (c .match .rest .0 .0 .0 .0 .0 .0 .0 .0 .0 .1),
-      ne-eqb (c .before .before .args .letter) 102 (c .match .rest .0 .0 .0 .0 .0 .0 .0 .0 .1),
-      ne-eqb (c .before .before .args .letter) 112 (c .match .rest .0 .0 .0 .0 .0 .0 .0 .1),
-      ne-eqb (c .before .before .args .letter) 113 (c .match .rest .0 .0 .0 .0 .0 .0 .1),
-      ne-eqb (c .before .before .args .letter) 98 (c .match .rest .0 .0 .0 .0 .0 .1),
-      ne-eqb (c .before .before .args .letter) 106 (c .match .rest .0 .0 .0 .0 .1),
-      ne-eqb (c .before .before .args .letter) 101 (c .match .rest .0 .0 .0 .1),
-      ne-eqb (c .before .before .args .letter) 103 (c .match .rest .0 .0 .1),
-      ne-eqb (c .before .before .args .letter) 121 (c .match .rest .0 .1),
-      ne-eqb (c .before .before .args .letter) 118 (c .match .rest .1),
+      ne-eqb (c .before .before .args .letter) 110 (c .match .rest .0 .0 .0 .0 .0 .0 .0 .0 .0 .0 .0 .0 .0 .1),
+      ne-eqb (c .before .before .args .letter) 99 (c .match .rest .0 .0 .0 .0 .0 .0 .0 .0 .0 .0 .0 .0 .1),
+      ne-eqb (c .before .before .args .letter) 109 (c .match .rest .0 .0 .0 .0 .0 .0 .0 .0 .0 .0 .0 .1),
+      ne-eqb (c .before .before .args .letter) 102 (c .match .rest .0 .0 .0 .0 .0 .0 .0 .0 .0 .0 .1),
+      ne-eqb (c .before .before .args .letter) 112 (c .match .rest .0 .0 .0 .0 .0 .0 .0 .0 .0 .1),
+      ne-eqb (c .before .before .args .letter) 113 (c .match .rest .0 .0 .0 .0 .0 .0 .0 .0 .1),
+      ne-eqb (c .before .before .args .letter) 98 (c .match .rest .0 .0 .0 .0 .0 .0 .0 .1),
+      ne-eqb (c .before .before .args .letter) 106 (c .match .rest .0 .0 .0 .0 .0 .0 .1),
+      ne-eqb (c .before .before .args .letter) 101 (c .match .rest .0 .0 .0 .0 .0 .1),
+      ne-eqb (c .before .before .args .letter) 103 (c .match .rest .0 .0 .0 .0 .1),
+      ne-eqb (c .before .before .args .letter) 121 (c .match .rest .0 .0 .0 .1),
+      ne-eqb (c .before .before .args .letter) 118 (c .match .rest .0 .0 .1),
+      ne-eqb (c .before .before .args .letter) 119 (c .match .rest .0 .1),
+      ne-eqb (c .before .before .args .letter) 117 (c .match .rest .1),
     )
 
 pub is-within-spec : {M : Type 1} → statement M
@@ -98,6 +108,8 @@ is-within-spec =
     (λ c κs. search needs)
     (λ c κs. search needs)
     (λ c κs. search needs)
+    (λ c κs. search needs)
+    (λ c κs. search needs)
     returns
     returns-2
     returns-3
@@ -110,4 +122,6 @@ is-within-spec =
     returns-10
     returns-11
     returns-12
-    returns-13)
+    returns-13
+    returns-14
+    returns-15)
