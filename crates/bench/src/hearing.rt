@@ -101,18 +101,18 @@ fn told(out: &mut [u8], at: usize, heard: Heard, taken: usize, f: &[u8]) -> usiz
 }
 
 // How many bytes of the desk's frame have begun, how many of the piece were taken, and the place in the output.
-struct Heed {
+struct Listened {
     got: usize,
     taken: usize,
     out: usize,
 }
 
 // One call, and its line.
-fn call(out: &mut [u8], at: usize, f: &mut FrameBytes, got: usize, bytes: &[u8]) -> Heed {
+fn call(out: &mut [u8], at: usize, f: &mut FrameBytes, got: usize, bytes: &[u8]) -> Listened {
     let p = hear_in(f, got, bytes);
     let heard = p.heard;
     let at = told(out, at, heard, p.taken, f);
-    Heed {
+    Listened {
         got: p.got,
         taken: p.taken,
         out: at,
@@ -120,8 +120,8 @@ fn call(out: &mut [u8], at: usize, f: &mut FrameBytes, got: usize, bytes: &[u8])
 }
 
 // At least one call; then what it did not take is handed in again, until none is left.
-fn all(out: &mut [u8], at: usize, f: &mut FrameBytes, got: usize, bytes: &[u8]) -> Heed {
-    let mut h = Heed {
+fn all(out: &mut [u8], at: usize, f: &mut FrameBytes, got: usize, bytes: &[u8]) -> Listened {
+    let mut h = Listened {
         got: got,
         taken: 0,
         out: at,

@@ -42,45 +42,32 @@ fn len_of(said: Written) -> usize {
     }
 }
 
-fn number_of(said: Written) -> u64 {
+fn told(out: &mut [u8], at: usize, said: Written, room: &[u8]) -> usize {
     match said {
-        Written::Done { len } => 0,
-        Written::NoRoom => 14,
-        Written::TooLarge => 20,
+        Written::Done { len } => {
+            let at = show::decimal(out, at, 0);
+            let at = show::next_decimal(out, at, len as u64);
+            show::end(out, at, first(room, len))
+        }
+        Written::NoRoom => show::text(out, at, b"14\n"),
+        Written::TooLarge => show::text(out, at, b"20\n"),
     }
 }
 
-// The length and the request, where it was written.
-fn written(out: &mut [u8], at: usize, request: &[u8]) -> usize {
-    if request.len() == 0 {
-        return at;
-    }
-    show::next_decimal(out, at, request.len() as u64)
-}
-
-// What the desk says.
-fn tell(bench: Bench, said: Written, room: &[u8], out: &mut [u8]) -> Bench {
-    let mut bench = bench;
-    let request = first(room, len_of(said));
-    let at = show::text(out, bench.out, b"wrote");
-    let at = show::next_decimal(out, at, number_of(said));
-    let at = written(out, at, request);
-    let at = show::end(out, at, request);
-    bench.out = at;
-    bench
-}
-
-// The bench with the line printed, and how many bytes were written.
+// The bench with the line printed, and how many bytes the request has: none where it was refused.
 pub struct Wrote {
     pub bench: Bench,
     pub len: usize,
 }
 
 pub(crate) fn write(bench: Bench, bytes: &[u8], room: &mut [u8], out: &mut [u8]) -> Wrote {
+    let mut bench = bench;
     let said = put(bench, bytes, room);
-    let after = tell(bench, said, room, out);
+    let at = show::text(out, bench.out, b"wrote ");
+    let at = told(out, at, said, room);
+    bench.out = at;
     Wrote {
-        bench: after,
+        bench: bench,
         len: len_of(said),
     }
 }
