@@ -12,23 +12,20 @@ use wire_info::InfoData;
 // A call's number, and the bytes that it took.
 fn counted(out: &mut [u8], at: usize, number: u64, taken: usize) -> usize {
     let at = show::text(out, at, b"heard");
-    let at = show::next_decimal(out, at, number);
-    show::next_decimal(out, at, taken as u64)
+    show::numbers(out, at, &[number, taken as u64])
 }
 
-// The first half of Info's numbers, and the second.
-fn sizes(out: &mut [u8], at: usize, info: InfoData) -> usize {
-    let at = show::next_decimal(out, at, info.capacity as u64);
-    let at = show::next_decimal(out, at, info.erase_size as u64);
-    let at = show::next_decimal(out, at, info.boot_version as u64);
-    show::next_decimal(out, at, info.app_version as u64)
-}
-
-fn settings(out: &mut [u8], at: usize, info: InfoData) -> usize {
-    let at = show::next_decimal(out, at, info.mode as u64);
-    let at = show::next_decimal(out, at, info.boot_baud as u64);
-    let at = show::next_decimal(out, at, info.compat as u64);
-    show::next_decimal(out, at, info.max_payload as u64)
+fn info_of(info: InfoData) -> [u64; 8] {
+    [
+        info.capacity as u64,
+        info.erase_size as u64,
+        info.boot_version as u64,
+        info.app_version as u64,
+        info.mode as u64,
+        info.boot_baud as u64,
+        info.compat as u64,
+        info.max_payload as u64,
+    ]
 }
 
 fn named(out: &mut [u8], at: usize, name: &[u8], data: &[u8]) -> usize {
@@ -40,8 +37,7 @@ fn typed(out: &mut [u8], at: usize, contents: Contents, data: &[u8]) -> usize {
     match contents {
         Contents::Info { info } => {
             let at = show::text(out, at, b" info");
-            let at = sizes(out, at, info);
-            let at = settings(out, at, info);
+            let at = show::numbers(out, at, &info_of(info));
             show::byte(out, at, b'\n')
         }
         Contents::Verify { crc } => {
@@ -54,22 +50,20 @@ fn typed(out: &mut [u8], at: usize, contents: Contents, data: &[u8]) -> usize {
     }
 }
 
-// Address and flags.
-fn aimed(out: &mut [u8], at: usize, head: Head) -> usize {
-    let at = show::next_decimal(out, at, head.addr as u64);
-    show::next_decimal(out, at, head.flags as u64)
-}
-
 fn request(out: &mut [u8], at: usize, head: Head, data: &[u8]) -> usize {
-    let at = show::next_decimal(out, at, head.cmd as u64);
-    let at = aimed(out, at, head);
+    let list = [head.cmd as u64, head.addr as u64, head.flags as u64];
+    let at = show::numbers(out, at, &list);
     show::end(out, at, data)
 }
 
 fn reply(out: &mut [u8], at: usize, head: Head, contents: Contents, data: &[u8]) -> usize {
-    let at = show::next_decimal(out, at, head.cmd as u64);
-    let at = show::next_decimal(out, at, head.status as u64);
-    let at = aimed(out, at, head);
+    let list = [
+        head.cmd as u64,
+        head.status as u64,
+        head.addr as u64,
+        head.flags as u64,
+    ];
+    let at = show::numbers(out, at, &list);
     typed(out, at, contents, data)
 }
 

@@ -40,6 +40,17 @@ pub(crate) fn next_decimal(out: &mut [u8], at: usize, n: u64) -> usize {
     decimal(out, at, n)
 }
 
+// The numbers, a blank before each.
+pub(crate) fn numbers(out: &mut [u8], at: usize, list: &[u64]) -> usize {
+    let mut at = at;
+    let mut i: usize = 0;
+    while i < list.len() {
+        at = next_decimal(out, at, list[i]);
+        i += 1;
+    }
+    at
+}
+
 pub(crate) fn pair(out: &mut [u8], at: usize, b: u8) -> usize {
     let at = byte(out, at, digits::upper(b / 16));
     byte(out, at, digits::upper(b % 16))
