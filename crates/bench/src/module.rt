@@ -1,5 +1,5 @@
-// The module on the bench: its setup, the numbers of its state, its record, and whether the app runs. The longer arrays, the frame's and the page's 64 bytes,
-// flash and reply room, are lent beside it, so that no call copies them.
+// The module on the bench: its setup, the numbers of its state, its record, whether the app runs, and the frame of the desk at the other end. The module's
+// longer arrays, the frame's and the page's 64 bytes, flash and reply room, are lent beside it, so that no call copies them.
 use crate::limits;
 use crate::numbers;
 use device_start::new_state;
