@@ -16,6 +16,7 @@ use tinyboot_protocol::frame::Frame;
 use tinyboot_protocol::{Cmd, DEFAULT_PAYLOAD, Status};
 
 use crate::app;
+use crate::desk;
 use crate::out;
 use crate::record::{self, Shared};
 use crate::scenario::{Mark, Setup, Stream};
@@ -188,8 +189,8 @@ pub fn why_silent(bytes: &[u8], selected: bool) -> &'static str {
     }
 }
 
-/// Bytes read once more.
-struct Rest<'a>(&'a [u8]);
+/// Bytes read by a reader of their own.
+pub struct Rest<'a>(pub &'a [u8]);
 
 impl embedded_io::ErrorType for Rest<'_> {
     type Error = Ended;
@@ -248,6 +249,7 @@ impl<'a> Wire<'a> {
             out!("reset {at} {}", name(mode));
             out!("unread {}", self.stream.bytes.len() - at);
         }
+        desk::listen();
         for (_, mark) in &self.stream.marks[self.marks_met..] {
             meet(mark);
         }
@@ -259,6 +261,11 @@ pub fn meet(mark: &Mark) {
     match mark {
         Mark::Text(text) => out!("{text}"),
         Mark::Call(call) => app::call(*call),
+        Mark::Wrote(request) => out!("wrote {}", crate::Hex(request)),
+        Mark::Heard(bytes) => {
+            desk::put(bytes);
+            desk::listen();
+        }
     }
 }
 
@@ -278,6 +285,8 @@ impl embedded_io::ErrorType for Wire<'_> {
 impl embedded_io::Read for Wire<'_> {
     // Failing at the end, instead of Ok(0), is what the sync scan leaves by.
     fn read(&mut self, buf: &mut [u8]) -> Result<usize, Ended> {
+        // The last reply, if the desk has asked for it.
+        desk::listen();
         let mut end = self.stream.bytes.len();
         while let Some((at, mark)) = self.stream.marks.get(self.marks_met) {
             if *at > self.at {
@@ -312,6 +321,9 @@ impl embedded_io::Write for Wire<'_> {
     // The Rust flushes once after each reply.
     fn flush(&mut self) -> Result<(), Ended> {
         out!("reply {} {} {}", self.at, self.wait, crate::Hex(&self.sent));
+        if self.stream.asked.iter().any(|(from, to)| (from + 1..=*to).contains(&self.at)) {
+            desk::put(&self.sent);
+        }
         self.sent.clear();
         self.wait = 0;
         self.replied = true;

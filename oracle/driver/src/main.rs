@@ -5,6 +5,7 @@
 //! scenario at hand and starts a new child behind it.
 
 mod app;
+mod desk;
 mod device;
 mod proc;
 mod record;
@@ -135,6 +136,7 @@ impl Oracle {
         let setup = &scenario.setup;
         flash::renew(setup.capacity);
         tail::set(setup.version, setup.key);
+        desk::renew();
         let new = || State {
             data: [0; DEFAULT_PAYLOAD],
             selected: setup.id_len == 0,
@@ -195,6 +197,9 @@ impl Oracle {
         out!("record {}", Hex(flash::record()));
         out!("selected {}", state.selected as u8);
         out!("data {}", Hex(&state.data));
+        if desk::came() > 0 {
+            out!("desk {}", desk::came());
+        }
         out!("rewrites {}", flash::rewrites());
     }
 }

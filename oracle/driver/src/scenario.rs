@@ -5,6 +5,8 @@ use tinyboot_core::traits::RunMode;
 use tinyboot_protocol::crc::{CRC_INIT, crc16};
 use tinyboot_protocol::{BaudRate, DEFAULT_PAYLOAD, compat_key, pack_version, unpack_version};
 
+use crate::desk;
+
 /// Place of the data area in a frame, as the script language counts.
 const DATA: usize = 10;
 
@@ -61,12 +63,18 @@ impl Setup {
 pub struct Stream {
     pub bytes: Vec<u8>,
     pub marks: Vec<(usize, Mark)>,
+    /// From where to where the desk asked: it hears the replies to these.
+    pub asked: Vec<(usize, usize)>,
 }
 
 /// What stands between bytes and does not part them.
 pub enum Mark {
     Text(String),
     Call(Call),
+    /// The desk wrote this request.
+    Wrote(Vec<u8>),
+    /// These bytes came to the desk.
+    Heard(Vec<u8>),
 }
 
 /// A call of the app itself.
@@ -121,6 +129,8 @@ fn take(letter: u8, rest: &[u8], setup: &mut Setup, steps: &mut Vec<Step>) -> Re
         b't' => Some(Mark::Text(String::from_utf8_lossy(rest.trim_ascii()).into_owned())),
         b'A'..=b'Z' => Some(Mark::Text(value(letter, &pairs(rest)?)?)),
         b'k' | b'g' | b'y' => Some(Mark::Call(call(letter, &pairs(rest)?)?)),
+        b'w' | b'u' => Some(Mark::Wrote(desk::request(&pairs(rest)?)?)),
+        b'h' => Some(Mark::Heard(pairs(rest)?)),
         _ => None,
     };
     if let Some(mark) = mark {
@@ -129,7 +139,9 @@ fn take(letter: u8, rest: &[u8], setup: &mut Setup, steps: &mut Vec<Step>) -> Re
             Some(Step::Stream(s)) => s.marks.push((s.bytes.len(), mark)),
             _ => steps.push(Step::Mark(mark)),
         }
-        return Ok(());
+        if letter != b'u' {
+            return Ok(());
+        }
     }
     let bytes = pairs(rest)?;
     // A cut in a stream ends it: the plug is pulled.
@@ -195,14 +207,23 @@ fn take(letter: u8, rest: &[u8], setup: &mut Setup, steps: &mut Vec<Step>) -> Re
             [low, high] => steps.push(Step::App(u16::from_le_bytes([low, high]))),
             _ => return Err("an app version has 2 bytes".into()),
         },
-        b'x' => match steps.last_mut() {
-            Some(Step::Stream(s)) => s.bytes.extend_from_slice(&bytes),
-            _ if in_stream => return Err("after a cut in a stream a start or an app comes first".into()),
-            _ => steps.push(Step::Stream(Stream {
-                bytes,
-                marks: Vec::new(),
-            })),
-        },
+        b'x' | b'u' => {
+            if !matches!(steps.last(), Some(Step::Stream(_))) {
+                if in_stream {
+                    return Err("after a cut in a stream a start or an app comes first".into());
+                }
+                steps.push(Step::Stream(Stream::default()));
+            }
+            if let Some(Step::Stream(s)) = steps.last_mut() {
+                let from = s.bytes.len();
+                if letter == b'u' {
+                    s.bytes.extend_from_slice(&desk::request(&bytes)?);
+                    s.asked.push((from, s.bytes.len()));
+                } else {
+                    s.bytes.extend_from_slice(&bytes);
+                }
+            }
+        }
         _ => return Err("no such line".into()),
     }
     Ok(())
