@@ -591,6 +591,72 @@ class Counted(model.Device):
         return mode
 
 
+class CountedDesk(model.Desk):
+    """The desk, with what comes to it put down in `seen`."""
+
+    def __init__(self, seen):
+        super().__init__()
+        self.seen = seen
+        self.ended_in_aa = False
+        # What has been done with the device since the last piece.
+        self.since = set()
+
+    def note(self, *points):
+        for point in points:
+            self.seen["heard", str(point)] += 1
+
+    def hear(self, piece):
+        begun = self.state.begun
+        self.note(*(f"{what} inside a frame" for what in self.since if begun))
+        self.since = set()
+        self.note("a piece, empty" if not piece else "a piece of one byte" if len(piece) == 1 else "a longer piece")
+        if begun == 0 and self.ended_in_aa and piece[:1] == b"\x55":
+            self.note("55 behind the AA that ended a frame")
+        if begun == 0 and piece[:3] == b"\xAA\xAA\x55" or begun == 1 and piece[:2] == b"\xAA\x55":
+            self.note("AA AA 55")
+        taken, ended = super().hear(piece)
+        if ended is not None:
+            self.note("ended with the piece" if taken == len(piece) else "went on behind the frame")
+        else:
+            self.seen["desk begun at a call's end", str(self.state.begun)] += 1
+        if piece:
+            self.ended_in_aa = ended is not None and piece[taken - 1] == 0xAA
+        return taken, ended
+
+    def header_read(self):
+        frame = self.state.frame
+        command, status, length = frame[COMMAND], frame[STATUS], low_first(frame[LENGTH:DATA])
+        if status <= 7:
+            self.note(f"command {command}")
+        if command <= 5:
+            self.note(f"status {status}")
+            if status <= 7:
+                self.note(f"length {length}, {'a request' if status == 0 else 'a reply'}")
+        if (command > 5 or status > 7) and length > 52:
+            self.note("no command or status, and too long")
+        return super().header_read()
+
+    def frame_read(self, data_end):
+        frame = self.state.frame
+        received, right = low_first(frame[RECEIVED_CRC:]), model.crc(frame[:data_end])
+        what = "right" if received == right else "low byte wrong" if received >> 8 == right >> 8 else "high byte wrong" if received & 0xFF == right & 0xFF else "both wrong"
+        self.note(f"CRC of {'a request' if frame[STATUS] == 0 else 'a reply'}: {what}")
+        return super().frame_read(data_end)
+
+    def told(self, ended):
+        frame = self.state.frame
+        number, words = super().told(ended)
+        if number == 3:
+            self.note(f"fault {words}")
+            return number, words
+        command, status, length = COMMANDS[frame[COMMAND]], frame[STATUS], low_first(frame[LENGTH:DATA])
+        self.note(f"{command} {STATUSES[status]}")
+        if number == 2:
+            contents = words.split(" ")[4]
+            self.note(f"{command} of {length}: {contents}", *([f"{contents} of a command that is not Ok"] if status != model.OK else []))
+        return number, words
+
+
 def first_byte(difference):
     return next(n for n in range(4) if difference >> 8 * n & 0xFF)
 
@@ -602,11 +668,72 @@ class Bench(model.Bench):
         super().__init__(say)
         self.seen = Counter()
         self.device = Counted(self.device.setup, self.seen)
+        self.desk = CountedDesk(self.seen)
+        # What a `u` has drawn, while it is under way.
+        self.asking = None
 
     def line_s(self, data):
+        begun = self.desk.state.begun
         super().line_s(data)
         self.device = Counted(self.device.setup, self.seen)
+        self.desk = CountedDesk(self.seen)
         self.seen["setup", f"of {len(data)} bytes"] += 1
+        if begun:
+            self.seen["heard", "a new setup inside a frame"] += 1
+
+    def wrote(self, data):
+        """Each number of a request looked at by itself; a limit's side where the others are right."""
+        device, room = self.device, self.device.room_lent
+        command, flags, address, length = COMMANDS[data[0]], data[1], low_first(data[2:6]), len(data) - 6
+        wrong = [name for name, bad in (("room", room < 64), ("length", length > 52), ("address", address >= 2**24)) if bad]
+        before = bytes(device.room)
+        written = super().wrote(data)
+        if written is None and before != bytes(device.room) or written is not None and before[len(written):] != bytes(device.room[len(written):]):
+            raise AssertionError("a request has changed something else of the room")
+        points = [f"{command} {'written' if not wrong else 'refused'}"]
+        points += [f"refused by {wrong[0]} alone" if len(wrong) == 1 else "14 before 20" if wrong[0] == "room" else "20 for both"] if wrong else []
+        points += [f"{name} {value}" for name, value in (("room", room), ("length", length), ("address", address)) if not set(wrong) - {name}]
+        points += [f"flags {flags}"] if not wrong else []
+        points += [where for where, so in (("while the app runs", device.app_version is not None), ("closed", not device.state.open), ("inside a frame of the device's", device.state.begun),
+                                           ("with no setup", not device.setup.good), ("with no record", device.record_lent != 12), ("with no flash", device.flash_lent != device.setup.capacity),
+                                           ("with no state", not device.state.well_formed(device.setup.capacity))) if so and not wrong]
+        for point in points:
+            self.seen["wrote", point] += 1
+        return written
+
+    def line_u(self, data):
+        self.asking = [], self.desk.state.begun, self.device.state.begun
+        fault = super().line_u(data)
+        found, at_desk, at_device = self.asking
+        self.asking = None
+        if fault is None:
+            for number, reply in found:
+                self.note_asked(f"answer {number}")
+                if reply:
+                    self.note_asked(f"{COMMANDS[reply[2]] if reply[2] <= 5 else 'no command'} {STATUSES[reply[3]]}")
+            replies = [reply for _, reply in found if reply]
+            self.note_asked(f"{len(replies) if len(replies) < 3 else 'more'} replies", *(["a frame begun before ends in it"] if at_device and any(number in (1, 2, 3) for number, _ in found) else []),
+                            *(["the desk is inside a frame"] if at_desk and replies else []), *(["not written"] if not found else []))
+        return fault
+
+    def note_asked(self, *points):
+        for point in points:
+            self.seen["app asked" if self.device.app_version is not None else "asked", point] += 1
+
+    def feed(self, data):
+        result = super().feed(data)
+        self.desk.since.add("fed")
+        if self.asking is not None:
+            self.asking[0].append((result[0], result[2]))
+        return result
+
+    def line_b(self, data):
+        self.desk.since.add("a start")
+        return super().line_b(data)
+
+    def line_a(self, data):
+        self.desk.since.add("an app")
+        return super().line_a(data)
 
     def line_j(self, data):
         fault = super().line_j(data)
@@ -710,11 +837,12 @@ def wanted():
                         "length 53", "at its end -1", "at its end +0", "bytes not yet read do not count"],
         "setup": [f"erase size {n}" for n in (0, 63, 64, 65, 32, 96, 32768, 32769, 32832)] + [f"capacity {n}" for n in (0, 63, 64, 65, 65535, 65536, 65537, 65600)]
         + ["capacity a multiple of 64 alone"] + [f"id length {n}" for n in (0, 1, 16, 17, 255)] + [f"kind of start {n}" for n in (0, 1, 2, 3, 128, 255)] + ["of 31 bytes", "of 32 bytes"],
-        "line": [*model.Bench.COUNTS, "t", "no such letter", "no digit", "half a byte", *(f"{letter}: too few bytes" for letter in "sncmfrpqbjeagyv"),
-                 *(f"{letter}: too many bytes" for letter in "sncmfrpqbxodtjeakgyv"), "j: more than 4", "e: no such mode", "n: more than 65600", "c: more than 16", "m: more than 512", "f: past byte 65600",
-                 "p: no such field", "p: more than 1", "q: past byte 64", "b: no such mode", "g: no such rate", "y: no such rate", "v: more than 16"],
+        "line": [*model.Bench.COUNTS, "t", "no such letter", "no digit", "half a byte", *(f"{letter}: too few bytes" for letter in "sncmfrpqbjeagyvwu"),
+                 *(f"{letter}: too many bytes" for letter in "sncmfrpqbxodtjeakgyvwuh"), "j: more than 4", "e: no such mode", "n: more than 65600", "c: more than 16", "m: more than 512", "f: past byte 65600",
+                 "p: no such field", "p: more than 1", "q: past byte 64", "b: no such mode", "g: no such rate", "y: no such rate", "v: more than 16", "w: no such command", "u: no such command"],
     }
     points |= wanted_of_the_app()
+    points |= wanted_of_the_desk()
     return {group: [str(point) for point in found] for group, found in points.items()}
 
 
@@ -766,6 +894,29 @@ def wanted_of_the_app():
     for name in ("app confirm", "app set_baud", "app rate"):
         points[name] += [f"not refused by the {what}" for what in ("setup", "room", "state")]
     return points
+
+
+def wanted_of_the_desk():
+    typed = {"Info": {18: "info"}, "Verify": {2: "verify"}, "Select": {n: "select" for n in range(1, 17)}}
+    replies = [f"{COMMANDS[command]} {STATUSES[status]}" for command, statuses in enumerate(((1,), (1, 4), (1, 4, 5), (1, 4, 5, 7), (1, 5), (1, 5))) for status in statuses]
+    return {
+        "wrote": [f"{command} {what}" for command in COMMANDS for what in ("written", "refused")] + [f"refused by {name} alone" for name in ("room", "length", "address")] + ["14 before 20", "20 for both"]
+        + [f"room {n}" for n in (0, 12, 63, 64, 65, 512)] + [f"length {n}" for n in (0, 1, 51, 52, 53, 54, 4090)]
+        + [f"address {n}" for n in (0, 0xFFFF, 0x10000, 2**24 - 1, 2**24, 2**24 + 1, 2**32 - 1)] + [f"flags {n}" for n in (0, 1, 0x7F, 0x80, 0xFF)]
+        + ["while the app runs", "closed", "inside a frame of the device's", "with no setup", "with no record", "with no flash", "with no state"],
+        "heard": [f"{command} {status}" for command in COMMANDS for status in STATUSES] + [f"fault {n}" for n in (3, 5, 6)]
+        + [f"{command} of {n}: {typed.get(command, {}).get(n, 'plain')}" for command in COMMANDS for n in (0, 1, 2, 3, 15, 16, 17, 18, 19, 52)]
+        + [f"{what} of a command that is not Ok" for what in ("info", "verify", "select", "plain")] + [f"command {n}" for n in (0, 5, 6, 255)] + [f"status {n}" for n in (0, 1, 7, 8, 255)]
+        + [f"length {n}, {what}" for n in (0, 52, 53, 256, 0xFFFF) for what in ("a request", "a reply")] + ["no command or status, and too long"]
+        + [f"CRC of {whom}: {what}" for whom in ("a request", "a reply") for what in ("right", "low byte wrong", "high byte wrong", "both wrong")]
+        + ["AA AA 55", "55 behind the AA that ended a frame", "a piece, empty", "a piece of one byte", "a longer piece", "ended with the piece", "went on behind the frame"]
+        + ["a start inside a frame", "an app inside a frame", "fed inside a frame", "a new setup inside a frame"],
+        "desk begun at a call's end": range(64),
+        "asked": [f"answer {n}" for n in (0, 1, 2, 3, 10, 11, 12, 13, 15)] + replies + ["no command Unsupported"] + [f"{n} replies" for n in (0, 1, 2)]
+        + ["a frame begun before ends in it", "the desk is inside a frame", "not written"],
+        "app asked": [f"answer {n}" for n in (0, 1, 2, 3, 10, 11, 13, 15)] + ["Info Ok", "Select Ok", *(f"{command} Unsupported" for command in ("Erase", "Write", "Verify", "Select")), "0 replies",
+                      "1 replies", "not written"],
+    }
 
 
 APP_REFUSALS = (10, 11, 13, 14, 15)
