@@ -694,8 +694,10 @@ class Bench(model.Bench):
         points += [f"refused by {wrong[0]} alone" if len(wrong) == 1 else "14 before 20" if wrong[0] == "room" else "20 for both"] if wrong else []
         points += [f"{name} {value}" for name, value in (("room", room), ("length", length), ("address", address)) if not set(wrong) - {name}]
         points += [f"flags {flags}"] if not wrong else []
-        points += [where for where, so in (("while the app runs", device.app_version is not None), ("closed", not device.state.open), ("inside a frame of the device's", device.state.begun),
-                                           ("with no setup", not device.setup.good), ("with no record", device.record_lent != 12), ("with no flash", device.flash_lent != device.setup.capacity),
+        points += [where for where, so in (("while the app runs", device.app_version is not None), ("closed", not device.state.open),
+                                           ("inside a frame of the device's", device.state.begun),
+                                           ("with no setup", not device.setup.good), ("with no record", device.record_lent != 12), ("with no flash",
+                                                   device.flash_lent != device.setup.capacity),
                                            ("with no state", not device.state.well_formed(device.setup.capacity))) if so and not wrong]
         for point in points:
             self.seen["wrote", point] += 1
@@ -712,7 +714,8 @@ class Bench(model.Bench):
                 if reply:
                     self.note_asked(f"{COMMANDS[reply[2]] if reply[2] <= 5 else 'no command'} {STATUSES[reply[3]]}")
             replies = [reply for _, reply in found if reply]
-            self.note_asked(f"{len(replies) if len(replies) < 3 else 'more'} replies", *(["a frame begun before ends in it"] if at_device and any(number in (1, 2, 3) for number, _ in found) else []),
+            self.note_asked(f"{len(replies) if len(replies) < 3 else 'more'} replies", *(["a frame begun before ends in it"] if at_device
+                    and any(number in (1, 2, 3) for number, _ in found) else []),
                             *(["the desk is inside a frame"] if at_desk and replies else []), *(["not written"] if not found else []))
         return fault
 
@@ -898,23 +901,28 @@ def wanted_of_the_app():
 
 def wanted_of_the_desk():
     typed = {"Info": {18: "info"}, "Verify": {2: "verify"}, "Select": {n: "select" for n in range(1, 17)}}
-    replies = [f"{COMMANDS[command]} {STATUSES[status]}" for command, statuses in enumerate(((1,), (1, 4), (1, 4, 5), (1, 4, 5, 7), (1, 5), (1, 5))) for status in statuses]
+    replies = [f"{COMMANDS[command]} {STATUSES[status]}" for command, statuses in enumerate(((1,), (1, 4), (1, 4, 5), (1, 4, 5, 7), (1, 5), (1, 5)))
+               for status in statuses]
     return {
-        "wrote": [f"{command} {what}" for command in COMMANDS for what in ("written", "refused")] + [f"refused by {name} alone" for name in ("room", "length", "address")] + ["14 before 20", "20 for both"]
+        "wrote": [f"{command} {what}" for command in COMMANDS for what in ("written", "refused")] + [f"refused by {name} alone"
+                for name in ("room", "length", "address")] + ["14 before 20", "20 for both"]
         + [f"room {n}" for n in (0, 12, 63, 64, 65, 512)] + [f"length {n}" for n in (0, 1, 51, 52, 53, 54, 4090)]
         + [f"address {n}" for n in (0, 0xFFFF, 0x10000, 2**24 - 1, 2**24, 2**24 + 1, 2**32 - 1)] + [f"flags {n}" for n in (0, 1, 0x7F, 0x80, 0xFF)]
         + ["while the app runs", "closed", "inside a frame of the device's", "with no setup", "with no record", "with no flash", "with no state"],
         "heard": [f"{command} {status}" for command in COMMANDS for status in STATUSES] + [f"fault {n}" for n in (3, 5, 6)]
         + [f"{command} of {n}: {typed.get(command, {}).get(n, 'plain')}" for command in COMMANDS for n in (0, 1, 2, 3, 15, 16, 17, 18, 19, 52)]
-        + [f"{what} of a command that is not Ok" for what in ("info", "verify", "select", "plain")] + [f"command {n}" for n in (0, 5, 6, 255)] + [f"status {n}" for n in (0, 1, 7, 8, 255)]
+        + [f"{what} of a command that is not Ok" for what in ("info", "verify", "select", "plain")] + [f"command {n}" for n in (0, 5, 6, 255)] + [f"status {n}"
+                for n in (0, 1, 7, 8, 255)]
         + [f"length {n}, {what}" for n in (0, 52, 53, 256, 0xFFFF) for what in ("a request", "a reply")] + ["no command or status, and too long"]
         + [f"CRC of {whom}: {what}" for whom in ("a request", "a reply") for what in ("right", "low byte wrong", "high byte wrong", "both wrong")]
-        + ["AA AA 55", "55 behind the AA that ended a frame", "a piece, empty", "a piece of one byte", "a longer piece", "ended with the piece", "went on behind the frame"]
+        + ["AA AA 55", "55 behind the AA that ended a frame", "a piece, empty", "a piece of one byte", "a longer piece", "ended with the piece",
+           "went on behind the frame"]
         + ["a start inside a frame", "an app inside a frame", "fed inside a frame", "a new setup inside a frame"],
         "desk begun at a call's end": range(64),
         "asked": [f"answer {n}" for n in (0, 1, 2, 3, 10, 11, 12, 13, 15)] + replies + ["no command Unsupported"] + [f"{n} replies" for n in (0, 1, 2)]
         + ["a frame begun before ends in it", "the desk is inside a frame", "not written"],
-        "app asked": [f"answer {n}" for n in (0, 1, 2, 3, 10, 11, 13, 15)] + ["Info Ok", "Select Ok", *(f"{command} Unsupported" for command in ("Erase", "Write", "Verify", "Select")), "0 replies",
+        "app asked": [f"answer {n}" for n in (0, 1, 2, 3, 10, 11, 13, 15)] + ["Info Ok", "Select Ok",
+                *(f"{command} Unsupported" for command in ("Erase", "Write", "Verify", "Select")), "0 replies",
                       "1 replies", "not written"],
     }
 
