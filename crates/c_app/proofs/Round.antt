@@ -1,6 +1,6 @@
 -- There and back: a state that is written is read again as it was, bytes that hold a state are written again as they were, and so a feed that the app client
 -- refuses changes nothing but the answer.
-use Prim.Native.Nat.{ℕ, zero, suc, _+_, _%_, _<_}
+use Prim.Native.Nat.{ℕ, _+_, _%_, _<_}
 use mathlib.Core.Path.{_≡_, refl, ap, sym, _∙_}
 use mathlib.Core.Bool.{Bool, true, false}
 use mathlib.Core.List.{List, [], _∷_, _++_}
@@ -16,19 +16,11 @@ use Rattle.app_state.specs.declared.AppSetup.{AppSetup}
 use Rattle.app_state.specs.declared.AppNumbers.{AppNumbers}
 use Rattle.app_state.specs.State.{AppWorld, stateWith, numbered}
 use Rattle.app_client.specs.Feed.{Called, refusalFor, refusedBy, takenOf, appFedOf}
-use Rattle.c_layout.specs.Layout.{part, flagByte, answerBytes}
+use Rattle.c_layout.specs.Layout.{part, answerBytes}
+use Rattle.c_layout.proofs.Flags.{flag-read, flag-write}
 use Rattle.c_app.specs.App.{holdsApp, appNumbersFrom, appFrom, appNumberBytes, appBytes}
 use Rattle.c_app.specs.Calls.{afterApp, appCalled, appWorldFrom}
 use Rattle.c_app.proofs.Holding.{holds-size, holds-flags}
-
-flag-read : (b : Bool) → eqb (flagByte b) 1 ≡ b
-flag-read true = refl
-flag-read false = refl
-
-flag-write : (v : ℕ) → v < 2 → flagByte (eqb v 1) ≡ v
-flag-write zero h = refl
-flag-write (suc zero) h = refl
-flag-write (suc (suc v)) h = absurd (omega arith)
 
 -- written, then read
 module _ (f : List ℕ) (lf : length f ≡ 64) (m : AppNumbers) (hg : m .got < 256) where

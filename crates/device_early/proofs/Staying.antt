@@ -19,7 +19,7 @@ use Rattle.device_boot.proofs.Careful.{and-false, start-unfit, trial-checksum, 
 use Rattle.device_state.specs.declared.Setup.{Setup}
 use Rattle.device_state.specs.Refusals.{setUp}
 use Rattle.device_start.specs.Starts.{left, decidedTo, careful, startRefusal, startedOf}
-use Rattle.device_early.specs.Early.{recordStays, stays, earlyOf}
+use Rattle.device_early.specs.Early.{sizeless, recordStays, stays, earlyOf}
 
 -- the record's cases
 module _ (careful : Bool) (capacity : ℕ) (meta : List ℕ) where
@@ -40,14 +40,9 @@ module _ (careful : Bool) (capacity : ℕ) (meta : List ℕ) where
       unfolding recordStays
       with-none e = simp (u, s, eq-eqb _ _ e)
 
-      module _ (e : checksumOf meta ≡ 0xFFFF → ⊥) where
-        pub of-no-bytes : sizeOf meta ≡ 0 → true ≡ recordStays careful capacity meta
-        unfolding recordStays
-        of-no-bytes z = simp (u, s, ne-eqb _ _ e, eq-eqb _ _ z)
-
-        pub by-size : (sizeOf meta ≡ 0 → ⊥) → ltb capacity (sizeOf meta) ≡ recordStays careful capacity meta
-        unfolding recordStays
-        by-size z = simp (u, s, ne-eqb _ _ e, ne-eqb _ _ z)
+      pub by-size : (checksumOf meta ≡ 0xFFFF → ⊥) → sizeless capacity meta ≡ recordStays careful capacity meta
+      unfolding recordStays
+      by-size e = simp (u, s, ne-eqb _ _ e)
 
 -- no byte at all has the CRC's start for its CRC, which is the sign for none
 crc-none : crcOf [] ≡ 0xFFFF
@@ -56,7 +51,7 @@ crc-none = refl
 
 -- an image that the record rules out passes on no flash
 abbrev ruledOut : Bool → ℕ → List ℕ → Bool
-ruledOut careful capacity meta = pick (eqb (checksumOf meta) 0xFFFF) careful (eqb (sizeOf meta) 0 || ltb capacity (sizeOf meta))
+ruledOut careful capacity meta = pick (eqb (checksumOf meta) 0xFFFF) careful (sizeless capacity meta)
 
 module _ (careful : Bool) (capacity : ℕ) (flash meta : List ℕ) where
   none-unfit : (checksumOf meta ≡ 0xFFFF → ⊥) → sizeOf meta ≡ 0 → validOf careful capacity flash meta ≡ false
@@ -73,7 +68,7 @@ module _ (careful : Bool) (capacity : ℕ) (flash meta : List ℕ) where
       sized e (inl z) = none-unfit e (eqb-true _ _ z)
       sized e (inr h) = valid-long careful capacity flash meta e (ltb-true _ _ h)
 
-      go : (t : Bool) → eqb (checksumOf meta) 0xFFFF ≡ t → pick t careful (eqb (sizeOf meta) 0 || ltb capacity (sizeOf meta)) ≡ true →
+      go : (t : Bool) → eqb (checksumOf meta) 0xFFFF ≡ t → pick t careful (sizeless capacity meta) ≡ true →
           validOf careful capacity flash meta ≡ false
       go true e h = valid-careful careful capacity flash meta h (eqb-true _ _ e)
       go false e h = sized (eqb-false _ _ e) (or-either (eqb (sizeOf meta) 0) (ltb capacity (sizeOf meta)) h)

@@ -12,14 +12,18 @@ use Rattle.device_start.specs.Starts.{careful}
 use Rattle.device_early.specs.declared.Outlook.{Outlook}
 use Rattle.device_early.specs.declared.Outlook.the-variants.{ReadsOn, Stays, BadSetup, BadRecord}
 
--- what the record says: it stays while Updating, while Validating without trials, with no checksum where the start is careful, and with one where the size is 0
--- or above the capacity
+-- a size that no image of this module has: 0, or above the capacity
+abbrev pub sizeless : ℕ → List ℕ → Bool
+sizeless capacity meta = eqb (sizeOf meta) 0 || ltb capacity (sizeOf meta)
+
+-- what the record says: it stays while Updating, while Validating without trials, with no checksum where the start is careful, and with one where the size is
+-- no image's
 unfoldable pub recordStays : Bool → ℕ → List ℕ → Bool
 recordStays careful capacity meta =
     if updating meta then true else
     if validating meta && eqb (trialsOf meta) 0 then true else
     if eqb (checksumOf meta) 0xFFFF then careful else
-    eqb (sizeOf meta) 0 || ltb capacity (sizeOf meta)
+    sizeless capacity meta
 
 -- the same of a start that asks for this mode: Service, 1, stays
 abbrev pub stays : Bool → ℕ → ℕ → List ℕ → Bool

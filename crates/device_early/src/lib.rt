@@ -13,7 +13,7 @@ ghost use mathlib.Core.Bool.{_&&_};
 ghost use lib.Dec.{eqb};
 ghost use Rattle.wire_numbers.specs.Names.{modeNumber};
 ghost use Rattle.store_record.specs.Record.{validating, trialsOf};
-ghost use Rattle.device_early.specs.Early.{recordStays, stays, outlookNumber, earlyOf};
+ghost use Rattle.device_early.specs.Early.{sizeless, recordStays, stays, outlookNumber, earlyOf};
 
 // The early answer. `ReadsOn` promises nothing: the start reads the flash, and may stay after all.
 pub enum Outlook {
@@ -55,6 +55,17 @@ fn is_spent(meta: &[u8]) -> bool
     false
 }
 
+// Whether the size stored is no image's of this module.
+pub fn is_sizeless(capacity: usize, meta: &[u8]) -> bool
+    ensures { λ r. ⌜ r ≡ sizeless capacity (now (meta .entry)) ⌝ }
+{
+    let size = boot_meta_store::app_size(meta) as usize;
+    if size == 0 {
+        return true;
+    }
+    capacity < size
+}
+
 // What the record says of any flash.
 fn record_stays(careful: bool, capacity: usize, meta: &[u8]) -> bool
     ensures { λ r. ⌜ r ≡ recordStays careful capacity (now (meta .entry)) ⌝ }
@@ -68,11 +79,7 @@ fn record_stays(careful: bool, capacity: usize, meta: &[u8]) -> bool
     if boot_meta_store::app_checksum(meta) == 0xFFFF {
         return careful;
     }
-    let size = boot_meta_store::app_size(meta) as usize;
-    if size == 0 {
-        return true;
-    }
-    capacity < size
+    is_sizeless(capacity, meta)
 }
 
 fn is_staying(mode: RunMode, careful: bool, capacity: usize, meta: &[u8]) -> bool

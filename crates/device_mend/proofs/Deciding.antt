@@ -8,13 +8,13 @@ use lib.Dec.{eqb, ltb}
 use borrow.Author.Tests.{eqb-true}
 use Rattle.laws.specs.Pick.{pick}
 use Rattle.store_record.specs.State.{stateRead}
-use Rattle.store_record.specs.Record.{updating, validating, trialsOf, checksumOf, sizeOf, half, trialUsed}
+use Rattle.store_record.specs.Record.{updating, validating, trialsOf, checksumOf, half, trialUsed}
 use Rattle.store_record.proofs.Whole.{Whole, cells, whole}
 use Rattle.device_boot.specs.Start.{validOf, clears, triedOf, clearedOf, stays, checkedOf, Decision, startOf}
 use Rattle.device_state.specs.declared.Setup.{Setup}
 use Rattle.device_state.specs.Refusals.{setUp}
 use Rattle.device_start.specs.Starts.{left, decidedTo, careful, startRefusal, startedOf}
-use Rattle.device_early.specs.Early.{recordStays}
+use Rattle.device_early.specs.Early.{sizeless, recordStays}
 use Rattle.device_early.proofs.Staying.{while-updating, early-stays}
 use Rattle.device_mend.specs.Mend.{lowOnes, missized, mended, listSize, leaves, mendedTo, mendOf}
 use Rattle.device_mend.proofs.Trials.{trials}
@@ -60,7 +60,7 @@ out false false false z careful e = e
 missized-stays : (careful : Bool) (capacity : ℕ) (m : List ℕ) → missized capacity m ≡ true → recordStays careful capacity m ≡ true
 unfolding recordStays
 missized-stays careful capacity m w =
-    out (updating m) (validating m && eqb (trialsOf m) 0) (eqb (checksumOf m) 0xFFFF) (eqb (sizeOf m) 0 || ltb capacity (sizeOf m)) careful w
+    out (updating m) (validating m && eqb (trialsOf m) 0) (eqb (checksumOf m) 0xFFFF) (sizeless capacity m) careful w
 
 or-true : (a b : Bool) → b ≡ true → a || b ≡ true
 or-true true b e = refl

@@ -1,24 +1,25 @@
 -- A record mended, and what was done to it (02, E14). `page` is the page size.
 use Prim.Native.Nat.{ℕ, suc, _-_, _^_}
-use mathlib.Core.Bool.{Bool, not, _&&_, _||_}
+use mathlib.Core.Bool.{Bool, not, _&&_}
 use mathlib.Core.List.{List, [], _∷_}
 use lib.ListN.{length, replicate}
 use lib.Seq.{sets}
 use lib.Dec.{eqb, ltb}
 use Rattle.laws.specs.Pick.{if_then_else_}
 use Rattle.store_record.specs.State.{stateRead}
-use Rattle.store_record.specs.Record.{stateOf, trialsOf, checksumOf, sizeOf, startsLeft}
+use Rattle.store_record.specs.Record.{stateOf, trialsOf, checksumOf, startsLeft}
 use Rattle.device_state.specs.declared.Setup.{Setup}
 use Rattle.device_state.specs.Refusals.{setUp}
+use Rattle.device_early.specs.Early.{sizeless}
 use Rattle.device_mend.specs.declared.Mended.{Mended}
 
 -- trials that are a run of low ones, with as many starts left
 abbrev pub lowOnes : ℕ → ℕ
 lowOnes trials = 2 ^ startsLeft trials - 1
 
--- a checksum is stored, and the size is none that an image of this module has: 0, or above the capacity
+-- a checksum is stored, and the size is no image's of this module (device_early/Early.antt: sizeless)
 abbrev pub missized : ℕ → List ℕ → Bool
-missized capacity m = not (eqb (checksumOf m) 0xFFFF) && (eqb (sizeOf m) 0 || ltb capacity (sizeOf m))
+missized capacity m = not (eqb (checksumOf m) 0xFFFF) && sizeless capacity m
 
 -- the record mended: a state byte that is none of the three becomes Updating's, which it is read as; trials become low ones; a record of an impossible size
 -- becomes Updating, with no checksum and no size. Bytes 8 to 11 stay

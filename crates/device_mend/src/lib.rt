@@ -1,5 +1,6 @@
 // A record mended, and a list of what was done. Ours: the Rust reads an odd record as it stands.
 
+use device_early::is_sizeless;
 use device_state::Setup;
 use device_state::refusal;
 use store_flash::cells::lay;
@@ -70,11 +71,7 @@ fn is_missized(capacity: usize, meta: &[u8]) -> bool
     if boot_meta_store::app_checksum(meta) == 0xFFFF {
         return false;
     }
-    let size = boot_meta_store::app_size(meta) as usize;
-    if size == 0 {
-        return true;
-    }
-    capacity < size
+    is_sizeless(capacity, meta)
 }
 
 // The record with no image: Updating, no checksum, no size.

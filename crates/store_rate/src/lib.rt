@@ -2,14 +2,12 @@
 // leaves the rest to the chip.
 
 use store_record::boot_meta_store;
+use store_record::rewrite::RECORD;
 use wire_rates::BaudFound;
 use wire_rates::BaudRate;
 ghost use mathlib.Core.Path.{_≡_};
 ghost use Rattle.wire_rates.specs.Baud.{baudIndex};
 ghost use Rattle.store_rate.specs.Rate.{rateRead};
-
-// How many bytes a record has.
-const RECORD: usize = 12;
 
 // The rate of the record's baud; the build's own where its index has none, and where the bytes are no record.
 pub fn baud(meta: &[u8], default: BaudRate) -> BaudRate

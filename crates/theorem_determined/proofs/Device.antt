@@ -61,6 +61,9 @@ start κs a o o' p q i =
 pub outlook-number : Determined device_early.outlook_number.ended device_early.outlook_number.Reads.Post
 outlook-number κs a o o' p q i = (plain p q i, o .1)
 
+pub is-sizeless : Determined device_early.is_sizeless.ended device_early.is_sizeless.Reads.Post
+is-sizeless κs a o o' p q i = (plain p q i, o .1)
+
 pub early : Determined device_early.early.ended device_early.early.Reads.Post
 early κs a o o' p q i = (outlook-apart (o .0) (o' .0) (plain p q) i, o .1)
 

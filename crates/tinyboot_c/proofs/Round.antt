@@ -1,5 +1,5 @@
 -- There and back: a state that is written is read again as it was, and bytes that hold a state are written again as they were.
-use Prim.Native.Nat.{ℕ, zero, suc, _+_, _%_, _^_, _<_, _≤_}
+use Prim.Native.Nat.{ℕ, _+_, _%_, _^_, _<_, _≤_}
 use mathlib.Core.Path.{_≡_, refl, ap, sym, _∙_}
 use mathlib.Core.Bool.{Bool, true, false, _&&_, _||_}
 use mathlib.Core.List.{List, [], _∷_, _++_}
@@ -32,15 +32,7 @@ use Rattle.c_layout.specs.Layout.{part, setupFrom, holdsState, numbersFrom, sta
 use Rattle.tinyboot_c.specs.Calls.{afterFeed, feedCalled, worldFrom}
 use Rattle.tinyboot_c.proofs.Copies.{part-four}
 use Rattle.c_layout.proofs.Holding.{holds-size, holds-flags}
-
-flag-read : (b : Bool) → eqb (flagByte b) 1 ≡ b
-flag-read true = refl
-flag-read false = refl
-
-flag-write : (v : ℕ) → v < 2 → flagByte (eqb v 1) ≡ v
-flag-write zero h = refl
-flag-write (suc zero) h = refl
-flag-write (suc (suc v)) h = absurd (omega arith)
+use Rattle.c_layout.proofs.Flags.{flag-read, flag-write}
 
 -- where the parts stand
 module _ (f p n : List ℕ) (lf : length f ≡ 64) (lp : length p ≡ 64) where

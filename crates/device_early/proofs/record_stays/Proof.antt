@@ -1,6 +1,6 @@
 use mathlib.Core.Path.{sym, _∙_}
 use borrow.Author.Needs.{needs}
-use Rattle.device_early.proofs.Staying.{while-updating, once-spent, with-none, of-no-bytes, by-size}
+use Rattle.device_early.proofs.Staying.{while-updating, once-spent, with-none, by-size}
 use Rattle.device_early.proofs.record_stays.Statement.{statement}
 use Rattle.device_early.proofs.record_stays.Tie as tie
 
@@ -27,25 +27,13 @@ returns-3 c =
 
 returns-4 : tie.Need-returns-4
 returns-4 c =
-    let k = c .before .before in
+    let k = c .before in
     let s = k .before .before in
     let u = s .before .before in
     let a = u .before .before .before .args in
-    of-no-bytes (a .careful) (a .capacity) (a .meta .now) (sym (u .before .is-updating .ensures) ∙ u .if1 .left)
-    (sym (s .before .is-spent .ensures) ∙ s .if2 .left)
-    (λ w. k .if3 .left (k .before .app-checksum .ensures ∙ w)) (sym (c .before .app-size .ensures) ∙ c .if4 .taken)
-
-returns-5 : tie.Need-returns-5
-returns-5 c =
-    let k = c .before .before in
-    let s = k .before .before in
-    let u = s .before .before in
-    let a = u .before .before .before .args in
-    let z = c .before .app-size .ensures in
-    rw z
-    (by-size (a .careful) (a .capacity) (a .meta .now) (sym (u .before .is-updating .ensures) ∙ u .if1 .left)
-    (sym (s .before .is-spent .ensures) ∙ s .if2 .left)
-    (λ w. k .if3 .left (k .before .app-checksum .ensures ∙ w)) (λ w. c .if4 .left (z ∙ w)))
+    c .is-sizeless .ensures ∙
+    by-size (a .careful) (a .capacity) (a .meta .now) (sym (u .before .is-updating .ensures) ∙ u .if1 .left)
+    (sym (s .before .is-spent .ensures) ∙ s .if2 .left) (λ w. k .if3 .left (k .before .app-checksum .ensures ∙ w))
 
 pub record-stays-spec : {M : Type 1} → statement M
 record-stays-spec =
@@ -58,6 +46,4 @@ record-stays-spec =
     (λ c κs. search needs)
     returns-3
     (λ c κs. search needs)
-    (λ c. search needs)
-    returns-4
-    returns-5)
+    returns-4)

@@ -9,15 +9,8 @@ returns c = simp (eq-eqb _ _ (sym (c .before .app-checksum .ensures) ∙ c .if1 
 
 returns-2 : tie.Need-returns-2
 returns-2 c =
-    let k = c .before .before in
-    simp (ne-eqb _ _ (λ w. k .if1 .left (k .before .app-checksum .ensures ∙ w)), eq-eqb _ _ (sym (c .before .app-size .ensures) ∙ c .if2 .taken))
-
-returns-3 : tie.Need-returns-3
-returns-3 c =
-    let k = c .before .before in
-    let z = c .before .app-size .ensures in
-    simp (ne-eqb _ _ (λ w. k .if1 .left (k .before .app-checksum .ensures ∙ w)), ne-eqb _ _ (λ w. c .if2 .left (z ∙ w)), z)
+    let k = c .before in
+    simp (ne-eqb _ _ (λ w. k .if1 .left (k .before .app-checksum .ensures ∙ w))) (c .is-sizeless .ensures)
 
 pub is-missized-spec : {M : Type 1} → statement M
-is-missized-spec =
-    tie.close (tie.spec (λ c κs. search needs) returns (λ c κs. search needs) (λ c. search needs) returns-2 returns-3)
+is-missized-spec = tie.close (tie.spec (λ c κs. search needs) returns (λ c κs. search needs) returns-2)
