@@ -143,11 +143,15 @@ compared (next q f) (next r s) = if eqb (q .mark) (r .mark) && alike (q .bytes) 
 unfoldable pub compareOf : List ℕ → List ℕ → Compared
 compareOf x y = compared (readingOf x) (readingOf y)
 
--- the place of the second's record where it differs; else the end of the second, where none stands
-abbrev pub placeBy : List ℕ → Compared → ℕ
-placeBy y Compared.Alike = length y
-placeBy y (Compared.Differs at) = at
-placeBy y (Compared.Fault capture code at) = length y
+-- the place of the second's record where it differs; else its end, where no record stands
+abbrev pub placeBy : ℕ → Compared → ℕ
+placeBy end Compared.Alike = end
+placeBy end (Compared.Differs at) = at
+placeBy end (Compared.Fault capture code at) = end
 
 unfoldable pub differencePlace : List ℕ → List ℕ → ℕ
-differencePlace x y = placeBy y (compareOf x y)
+differencePlace x y = placeBy (length y) (compareOf x y)
+
+-- the bytes of that record, none where there is none
+unfoldable pub differenceOf : List ℕ → List ℕ → List ℕ
+differenceOf x y = partAt y (differencePlace x y)

@@ -7,12 +7,19 @@ ghost use Rattle.desk_captures.specs.Captures.{
   isMark,
   nextAt,
   numberOf,
+  markOf,
   startOf,
   sizeOf,
   afterAt,
   partAt,
   partPlace,
+  alike,
+  compareOf,
+  placeBy,
+  differencePlace,
+  differenceOf,
 };
+ghost use Rattle.desk_captures.specs.Inner.{sameAt, toldBy};
 
 // The first mark byte of a record: it went to the module, or came from it.
 pub const TO_MODULE: u8 = 0x3E;
@@ -26,7 +33,7 @@ const COUNT_ZERO: u8 = 25;
 
 const CUT_SHORT: u8 = 26;
 
-// What stands at a place of a capture. A record's bytes begin at `start`, after its two mark bytes. A fault is that of the record whose mark stands at the place.
+// What stands at a place of a capture. A record's bytes begin at `start`, after its two mark bytes. A fault is that of the record whose mark stands there.
 pub enum Found {
     End,
     Record { mark: u8, start: usize, len: usize },
@@ -94,6 +101,20 @@ pub fn number_of(f: Found) -> u8
     }
 }
 
+fn mark_of(f: Found) -> u8
+    ensures { λ r. ⌜ r ≡ markOf f ⌝ }
+{
+    match f {
+        Found::End => 0,
+        Found::Record {
+            mark,
+            start: _,
+            len: _,
+        } => mark,
+        Found::Fault { code: _ } => 0,
+    }
+}
+
 fn start_of(f: Found) -> usize
     ensures { λ r. ⌜ r ≡ startOf f ⌝ }
 {
@@ -146,4 +167,102 @@ pub fn part_at<'a>(capture: &'a [u8], at: usize) -> &'a [u8]
     let start = start_of(f);
     let len = size_of(f);
     &capture[start..start + len]
+}
+
+fn same_bytes(p: &[u8], q: &[u8]) -> bool
+    ensures { λ r. ⌜ r ≡ alike (now (p .entry)) (now (q .entry)) ⌝ }
+{
+    if p.len() != q.len() {
+        return false;
+    }
+    let mut i: usize = 0;
+    while i < p.len() {
+        if p[i] != q[i] {
+            return false;
+        }
+        i += 1;
+    }
+    true
+}
+
+// Whether the same record stands at this place of both.
+fn same_at(first: &[u8], second: &[u8], at: usize) -> bool
+    ensures { λ r. ⌜ r ≡ sameAt (now (first .entry)) (now (second .entry)) at ⌝ }
+{
+    let f = next_at(first, at);
+    let s = next_at(second, at);
+    let m = mark_of(f);
+    let n = mark_of(s);
+    if m == 0 {
+        return false;
+    }
+    if m != n {
+        return false;
+    }
+    let p = part_at(first, at);
+    let q = part_at(second, at);
+    same_bytes(p, q)
+}
+
+// What is told where the same record does not stand in both, by the numbers of what does.
+fn told(a: u8, b: u8, at: usize) -> Compared
+    ensures { λ r. ⌜ r ≡ toldBy at a b ⌝ }
+{
+    if 1 < a {
+        return Compared::Fault {
+            capture: 1,
+            code: a,
+            at,
+        };
+    }
+    if 1 < b {
+        return Compared::Fault {
+            capture: 2,
+            code: b,
+            at,
+        };
+    }
+    if b == 0 {
+        return Compared::Alike;
+    }
+    Compared::Differs { at }
+}
+
+// Two captures compared, record by record. As far as they are the same, what comes next stands at the same place of both.
+pub fn compare(first: &[u8], second: &[u8]) -> Compared
+    ensures { λ r. ⌜ r ≡ compareOf (now (first .entry)) (now (second .entry)) ⌝ }
+{
+    let mut at: usize = 0;
+    while same_at(first, second, at) {
+        at = after(first, at);
+    }
+    let f = next_at(first, at);
+    let s = next_at(second, at);
+    let a = number_of(f);
+    let b = number_of(s);
+    told(a, b, at)
+}
+
+fn place_of(c: Compared, end: usize) -> usize
+    ensures { λ r. ⌜ r ≡ placeBy end c ⌝ }
+{
+    match c {
+        Compared::Alike => end,
+        Compared::Differs { at } => at,
+        Compared::Fault {
+            capture: _,
+            code: _,
+            at: _,
+        } => end,
+    }
+}
+
+// The record of the second capture where it first differs from the first, as that very part of the second; none where `compare` tells of no such record.
+pub fn difference<'a, 'b>(first: &'a [u8], second: &'b [u8]) -> &'b [u8]
+    ensures { λ r. ⌜ now r ≡ differenceOf (now (first .entry)) (now (second .entry)) ⌝ }
+    ensures { λ r. ⌜ ptr r ≡ partPlace (ptr (second .entry)) (now (second .entry)) (differencePlace (now (first .entry)) (now (second .entry))) ⌝ }
+{
+    let c = compare(first, second);
+    let at = place_of(c, second.len());
+    part_at(second, at)
 }
