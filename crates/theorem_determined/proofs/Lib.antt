@@ -1,6 +1,7 @@
 pub mod Apart
 pub mod Wire
 pub mod Desk
+pub mod Captures
 pub mod Store
 pub mod Commands
 pub mod Device
