@@ -88,25 +88,33 @@ module _ (at : ℕ) (l k : List ℕ) where
         let c = ap length (alike-same (take n (drop 2 l)) (take i (drop 2 k)) (v .1)) in
         (rw (w .1) refl, (counted l n (x .1) ∙ c ∙ sym (counted k i (y .1)), (omega arith, omega (arith, x .1))))
 
+-- whether the same record stands in both, by the marks m and n that were read and by the parts p and q
+unfoldable pub sameOf : ℕ → ℕ → List ℕ → List ℕ → Bool
+sameOf m n p q = not (eqb m 0) && (eqb m n && alike p q)
+
+module _ (t : Bool) (m n : ℕ) (p q : List ℕ) (e : t ≡ sameOf m n p q) where
+  pub same-none : m ≡ 0 → false ≡ t
+  unfolding sameOf
+  same-none z = rw e (simp (eq-eqb m 0 z))
+
+  module _ (z : m ≡ 0 → ⊥) where
+    pub same-marks : (m ≡ n → ⊥) → false ≡ t
+    unfolding sameOf
+    same-marks h = rw e (simp (ne-eqb m 0 z, ne-eqb m n h))
+
+    pub same-parts : m ≡ n → alike p q ≡ t
+    unfolding sameOf
+    same-parts h = rw e (simp (ne-eqb m 0 z, eq-eqb m n h))
+
 module _ (x y : List ℕ) (at : ℕ) where
+  pub by-marks : (f g : Found) → f ≡ nextAt x at → g ≡ nextAt y at → (m n : ℕ) → m ≡ markOf f → n ≡ markOf g →
+      sameAt x y at ≡ sameOf m n (partAt x at) (partAt y at)
+  unfolding sameAt sameOf
+  by-marks f g ef eg m n em en = rw (← ef, ← eg, ← em, ← en) refl
+
   same-is : sameAt x y at ≡ sameBy at (drop at x) (drop at y) (frontOf (drop at x)) (frontOf (drop at y))
   unfolding sameAt nextAt
   same-is = rw (part-front x at, part-front y at) refl
-
-  -- whether the same record stands in both, by its mark and bytes
-  module _ (f g : Found) (ef : f ≡ nextAt x at) (eg : g ≡ nextAt y at) (m n : ℕ) (em : m ≡ markOf f) (en : n ≡ markOf g) where
-    pub same-none : m ≡ 0 → false ≡ sameAt x y at
-    unfolding sameAt
-    same-none z = rw (← ef, ← em) (simp (eq-eqb m 0 z))
-
-    module _ (z : m ≡ 0 → ⊥) where
-      pub same-marks : (m ≡ n → ⊥) → false ≡ sameAt x y at
-      unfolding sameAt
-      same-marks h = rw (← ef, ← eg, ← em, ← en) (simp (ne-eqb m 0 z, ne-eqb m n h))
-
-      pub same-parts : m ≡ n → (p q : List ℕ) → p ≡ partAt x at → q ≡ partAt y at → (t : Bool) → t ≡ alike p q → t ≡ sameAt x y at
-      unfolding sameAt
-      same-parts h p q ep eq t e = rw (← ef, ← eg, ← em, ← en, ← ep, ← eq, e) (simp (ne-eqb m 0 z, eq-eqb m n h))
 
   -- where the same record does not stand in both, the comparison is told
   pub is-told : sameAt x y at ≡ false → (a b : ℕ) → a ≡ numberOf (nextAt x at) → b ≡ numberOf (nextAt y at) →

@@ -20,41 +20,54 @@ mark-to b e = simp (eq-eqb b 0x3E e)
 pub mark-from : (b : ℕ) → (b ≡ 0x3E → ⊥) → eqb b 0x3C ≡ isMark b
 mark-from b h = simp (ne-eqb b 0x3E h)
 
+-- what is found at a place with the mark m and the count n, and k bytes after them
+unfoldable pub countedAt : ℕ → ℕ → ℕ → ℕ → Found
+countedAt at m n k = if eqb n 0 then Found.Fault 25 else if ltb k n then Found.Fault 26 else Found.Record m (at + 2) n
+
+module _ (x : Found) (at m n k : ℕ) (e : x ≡ countedAt at m n k) where
+  pub is-zero : n < 1 → Found.Fault 25 ≡ x
+  unfolding countedAt
+  is-zero z = rw e (simp (eq-eqb n 0 (omega arith)))
+
+  module _ (p : 1 ≤ n) where
+    pub is-short : k < n → Found.Fault 26 ≡ x
+    unfolding countedAt
+    is-short z = rw e (simp (ne-eqb n 0 (λ q. omega arith), lt-ltb k n z))
+
+    pub is-record : n ≤ k → Found.Record m (at + 2) n ≡ x
+    unfolding countedAt
+    is-record z = rw e (simp (ne-eqb n 0 (λ q. omega arith), le-ltb k n z))
+
+found-counted : (at m n : ℕ) (r : List ℕ) (k : ℕ) → length r ≡ k → foundBy at (countedOf m n r) ≡ countedAt at m n k
+unfolding countedAt
+found-counted at m n r k e = rw e (go (eqb n 0) (ltb k n))
+  where
+    go : (t u : Bool) → foundBy at (if t then fault 25 else if u then fault 26 else stands m n) ≡
+        (if t then Found.Fault 25 else if u then Found.Fault 26 else Found.Record m (at + 2) n)
+    go true u = refl
+    go false true = refl
+    go false false = refl
+
 module _ (s : List ℕ) (at : ℕ) where
   pub at-end : length s ≤ at → Found.End ≡ nextAt s at
   unfolding nextAt frontOf
   at-end h = rw (drop-of-length-le s h) refl
 
-  module _ (h : at < length s) where
-    pub at-unknown : (t : Bool) → t ≡ isMark (getD s at 0) → t ≡ false → Found.Fault 24 ≡ nextAt s at
+  module _ (h : at < length s) (t : Bool) (e : t ≡ isMark (getD s at 0)) where
+    pub at-unknown : t ≡ false → Found.Fault 24 ≡ nextAt s at
     unfolding nextAt frontOf
-    at-unknown t e w = rw (drop-cons s at 0 h, ← e, w) refl
+    at-unknown w = rw (drop-cons s at 0 h, ← e, w) refl
 
-    module _ (t : Bool) (e : t ≡ isMark (getD s at 0)) (w : t ≡ true) where
+    module _ (w : t ≡ true) where
       pub at-alone : length s - at < 2 → Found.Fault 26 ≡ nextAt s at
       unfolding nextAt frontOf
       at-alone l = rw (drop-cons s at 0 h, ← e, w, drop-of-length-le s {i = suc at} (omega arith)) refl
 
-      module _ (l : 2 ≤ length s - at) where
-        counted : nextAt s at ≡ foundBy at (countedOf (getD s at 0) (getD s (suc at) 0) (drop (suc (suc at)) s))
-        unfolding nextAt frontOf
-        counted = rw (drop-cons s at 0 h, ← e, w, drop-cons s (suc at) 0 (omega arith)) refl
-
-        module _ (n : ℕ) (c : n ≡ getD s (at + 1) 0) where
-          left : length (drop (suc (suc at)) s) ≡ length s - at - 2
-          left = length-drop (suc (suc at)) s ∙ omega arith
-
-          is-count : getD s (suc at) 0 ≡ n
-          is-count = ap (λ (k : ℕ). getD s k 0) (sym (add-one at)) ∙ sym c
-
-          pub at-zero : n < 1 → Found.Fault 25 ≡ nextAt s at
-          at-zero z = rw (counted, is-count) (simp (eq-eqb n 0 (omega arith)))
-
-          pub at-short : 1 ≤ n → length s - at - 2 < n → Found.Fault 26 ≡ nextAt s at
-          at-short p z = rw (counted, is-count, left) (simp (ne-eqb n 0 (λ q. omega arith), lt-ltb (length s - at - 2) n z))
-
-          pub at-record : 1 ≤ n → n ≤ length s - at - 2 → Found.Record (getD s at 0) (at + 2) n ≡ nextAt s at
-          at-record p z = rw (counted, is-count, left) (simp (ne-eqb n 0 (λ q. omega arith), le-ltb (length s - at - 2) n z))
+      pub at-count : 2 ≤ length s - at → nextAt s at ≡ countedAt at (getD s at 0) (getD s (at + 1) 0) (length s - at - 2)
+      unfolding nextAt frontOf
+      at-count l =
+          rw (drop-cons s at 0 h, ← e, w, drop-cons s (suc at) 0 (omega arith), add-one at)
+          (found-counted at (getD s at 0) (getD s (suc at) 0) (drop (suc (suc at)) s) (length s - at - 2) (length-drop (suc (suc at)) s ∙ omega arith))
 
 -- whatever holds of nothing where nothing is left, of the three faults, and of a record within what is left, holds of what stands at the front
 pub front-is : (P : Front → Type 0) (l : List ℕ) →
