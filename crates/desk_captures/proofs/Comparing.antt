@@ -35,20 +35,20 @@ alike-lengths p q h = go (alike p q) refl
     go false e = refl
 
 module _ (p q : List ℕ) (i : ℕ) (w : alike (drop i p) (drop i q) ≡ alike p q) where
-  module _ (h : i < length p) (k : i < length q) where
-    one-more : alike (drop i p) (drop i q) ≡ (eqb (getD p i 0) (getD q i 0) && alike (drop (i + 1) p) (drop (i + 1) q))
-    unfolding alike
-    one-more = rw (drop-cons p i 0 h, drop-cons q i 0 k, add-one i) refl
-
-    pub alike-turned : getD p i 0 ≡ getD q i 0 → alike (drop (i + 1) p) (drop (i + 1) q) ≡ alike p q
-    alike-turned e = let o = simp (eq-eqb (getD p i 0) (getD q i 0) e) at one-more in sym o ∙ w
-
-    pub alike-apart : (getD p i 0 ≡ getD q i 0 → ⊥) → false ≡ alike p q
-    alike-apart e = let o = simp (ne-eqb (getD p i 0) (getD q i 0) e) at one-more in sym o ∙ w
+  pub one-more : i < length p → i < length q → alike p q ≡ (eqb (getD p i 0) (getD q i 0) && alike (drop (i + 1) p) (drop (i + 1) q))
+  unfolding alike
+  one-more h k = sym w ∙ rw (drop-cons p i 0 h, drop-cons q i 0 k, add-one i) refl
 
   pub alike-ended : length p ≤ i → length q ≤ i → true ≡ alike p q
   unfolding alike
-  alike-ended h k = let o = rw (drop-of-length-le p h, drop-of-length-le q k) at w in o
+  alike-ended h k = rw (drop-of-length-le p h, drop-of-length-le q k) at w
+
+module _ (t : Bool) (a b : ℕ) (u : Bool) (e : t ≡ (eqb a b && u)) where
+  pub ones-same : a ≡ b → u ≡ t
+  ones-same h = rw e (simp (eq-eqb a b h))
+
+  pub ones-apart : (a ≡ b → ⊥) → false ≡ t
+  ones-apart h = rw e (simp (ne-eqb a b h))
 
 -- no record has mark 0
 unmarked : (m : ℕ) → (m ≡ 0 → ⊥) → (t : Bool) → not (eqb m 0) && (eqb m 0 && t) ≡ true → ⊥

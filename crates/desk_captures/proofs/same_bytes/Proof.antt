@@ -1,10 +1,12 @@
-use Prim.Native.Nat.{_-_}
+use Prim.Native.Nat.{_+_, _-_}
 use mathlib.Core.Path.{_≡_, refl}
 use native.Mathlib.Omega.{arith}
 use borrow.Author.Needs.{needs}
-use lib.ListN.{length, drop}
+use lib.ListN.{length, getD, drop}
+use lib.Dec.{eqb}
+use mathlib.Core.Bool.{_&&_}
 use Rattle.desk_captures.specs.Captures.{alike}
-use Rattle.desk_captures.proofs.Comparing.{alike-lengths, alike-turned, alike-apart, alike-ended}
+use Rattle.desk_captures.proofs.Comparing.{alike-lengths, one-more, alike-ended, ones-same, ones-apart}
 use Rattle.desk_captures.proofs.same_bytes.Statement.{statement}
 use Rattle.desk_captures.proofs.same_bytes.Tie as tie
 
@@ -20,31 +22,24 @@ returns c = let a = c .before .args in alike-lengths (a .p .now) (a .q .now) (c 
 loop-holds : tie.Need-loop-holds Inv-loop μ-loop
 loop-holds c = refl
 
-returns-2 : tie.Need-returns-2 Inv-loop μ-loop
-returns-2 c =
-    let at-loop = c .before .before .before .before in
+-- a turn looks at one byte of each
+one : (c : tie.After-shared-slice-known2 Inv-loop μ-loop) →
+    let at-loop = c .before .before .before in
+    let p = at-loop .before .before .args .p .now in
+    let q = at-loop .before .before .args .q .now in
+    let i = at-loop .loop .i in
+    alike p q ≡ (eqb (getD p i 0) (getD q i 0) && alike (drop (i + 1) p) (drop (i + 1) q))
+one c =
+    let at-loop = c .before .before .before in
     let a = at-loop .before .before .args in
-    alike-apart
-    (a .p .now)
-    (a .q .now)
-    (at-loop .loop .i)
-    (at-loop .loop .inv)
-    (c .before .before .before .loop-test .taken)
-    (omega (arith, at-loop .before .if1 .left, c .before .before .before .loop-test .taken))
-    (c .if2 .taken)
+    let h = c .before .before .loop-test .taken in
+    one-more (a .p .now) (a .q .now) (at-loop .loop .i) (at-loop .loop .inv) h (omega (arith, at-loop .before .if1 .left, h))
+
+returns-2 : tie.Need-returns-2 Inv-loop μ-loop
+returns-2 c = ones-apart _ _ _ _ (one (c .before)) (c .if2 .taken)
 
 loop-again : tie.Need-loop-again Inv-loop μ-loop
-loop-again c =
-    let at-loop = c .before .before .before .before in
-    let a = at-loop .before .before .args in
-    alike-turned
-    (a .p .now)
-    (a .q .now)
-    (at-loop .loop .i)
-    (at-loop .loop .inv)
-    (c .before .before .before .loop-test .taken)
-    (omega (arith, at-loop .before .if1 .left, c .before .before .before .loop-test .taken))
-    (c .if2 .left)
+loop-again c = ones-same _ _ _ _ (one (c .before)) (c .if2 .left)
 
 returns-3 : tie.Need-returns-3 Inv-loop μ-loop
 returns-3 c =
