@@ -101,7 +101,8 @@ pub fn number_of(f: Found) -> u8
     }
 }
 
-fn mark_of(f: Found) -> u8
+// A record's mark, where its bytes begin and how many there are; 0 where none stands.
+pub fn mark_of(f: Found) -> u8
     ensures { λ r. ⌜ r ≡ markOf f ⌝ }
 {
     match f {
@@ -115,7 +116,7 @@ fn mark_of(f: Found) -> u8
     }
 }
 
-fn start_of(f: Found) -> usize
+pub fn start_of(f: Found) -> usize
     ensures { λ r. ⌜ r ≡ startOf f ⌝ }
 {
     match f {
@@ -129,7 +130,7 @@ fn start_of(f: Found) -> usize
     }
 }
 
-fn size_of(f: Found) -> usize
+pub fn size_of(f: Found) -> usize
     ensures { λ r. ⌜ r ≡ sizeOf f ⌝ }
 {
     match f {
@@ -169,7 +170,7 @@ pub fn part_at<'a>(capture: &'a [u8], at: usize) -> &'a [u8]
     &capture[start..start + len]
 }
 
-fn same_bytes(p: &[u8], q: &[u8]) -> bool
+pub fn same_bytes(p: &[u8], q: &[u8]) -> bool
     ensures { λ r. ⌜ r ≡ alike (now (p .entry)) (now (q .entry)) ⌝ }
 {
     if p.len() != q.len() {
