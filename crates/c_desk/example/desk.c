@@ -1,6 +1,7 @@
 /* A desk and a module in one process: a whole update, both ends this library. The desk selects the module, asks Info, erases, writes an image, has it verified, asks
  * Info again and resets; the module restarts into the app. Each request and each reply goes over the wire byte by byte. What goes over it is printed, so that it
- * can be compared with what tinyboot sends; what the desk hears is held to the setup, the image and its CRC here, and what is not so is told on standard error. */
+ * can be compared with what tinyboot sends; what the desk hears is held to the setup, the image and its CRC here, and what is not so is told on standard
+ * error. It is also recorded as a capture, which is then read and compared. */
 #include <stdio.h>
 #include <string.h>
 #include "tinyboot.h"
@@ -28,12 +29,26 @@ static uint8_t setup[TINYBOOT_SETUP_SIZE], state[TINYBOOT_STATE_SIZE], flash[CAP
 static struct tinyboot_desk desk;
 static uint8_t room[TINYBOOT_REPLY_SIZE], heard[TINYBOOT_HEARD_SIZE], image[IMAGE_SIZE];
 
+/* what went over the wire */
+static uint8_t capture[2048], other[sizeof capture], found[TINYBOOT_FOUND_SIZE], compared[TINYBOOT_COMPARED_SIZE];
+static size_t captured, exchanges;
+
 static void show(const char *who, const uint8_t *bytes, size_t len)
 {
     size_t i;
     printf("%s ", who);
     for (i = 0; i < len; i++) printf("%02X", bytes[i]);
     printf("\n");
+}
+
+/* A record of it, which has at most 255 bytes. */
+static void note(uint8_t mark, const uint8_t *bytes, size_t len)
+{
+    if (sizeof capture - captured < 2 + len) return;
+    capture[captured] = mark;
+    capture[captured + 1] = (uint8_t)len;
+    memcpy(capture + captured + 2, bytes, len);
+    captured += 2 + len;
 }
 
 /* The module's start, in this mode: what it decides, or 255. */
@@ -52,12 +67,15 @@ static int exchange(uint8_t said, uint8_t command, uint8_t expected)
     HOLD(said == TINYBOOT_DESK_WRITTEN);
     len = tinyboot_request_length(room);
     show("ask", room, len);
+    note(TINYBOOT_TO_MODULE, room, len);
     for (i = 0; i < len; i++) {
         said = tinyboot_feed(setup, sizeof setup, state, sizeof state, room + i, 1, flash, sizeof flash, meta, sizeof meta, reply, sizeof reply, answer, sizeof answer);
         HOLD(said == (i + 1 < len ? TINYBOOT_QUIET : expected) && tinyboot_answer_taken(answer) == 1);
     }
     n = tinyboot_answer_length(answer);
     show("reply", reply, n);
+    note(TINYBOOT_FROM_MODULE, reply, n);
+    exchanges++;
     for (i = 0; i < n; i++) {
         HOLD(got == TINYBOOT_HEARD_NOTHING);
         got = tinyboot_listen(&desk, reply + i, 1, heard);
@@ -122,6 +140,39 @@ static int refusals(void)
     return 1;
 }
 
+/* The capture, record by record: a request and its reply for each exchange. Then another of which one bit is wrong, and one that is cut. */
+static int captures(void)
+{
+    size_t at = 0, place = 0, n = 0;
+    while (tinyboot_capture_next(capture, captured, at, found, sizeof found) == TINYBOOT_CAPTURE_RECORD) {
+        const uint8_t *bytes = tinyboot_found_bytes(capture, found);
+        HOLD(tinyboot_found_mark(found) == (n % 2 == 0 ? TINYBOOT_TO_MODULE : TINYBOOT_FROM_MODULE));
+        HOLD(bytes == capture + at + 2 && bytes + tinyboot_found_length(found) == capture + tinyboot_found_after(found));
+        HOLD(bytes[0] == 0xAA && bytes[TINYBOOT_FRAME_AT_STATUS] == n % 2);
+        place = at;
+        at = tinyboot_found_after(found);
+        n++;
+    }
+    HOLD(found[0] == TINYBOOT_CAPTURE_END && at == captured && n == 2 * exchanges);
+    memcpy(other, capture, captured);
+    HOLD(tinyboot_capture_compare(capture, captured, other, captured, compared, sizeof compared) == TINYBOOT_CAPTURES_ALIKE);
+    other[captured - 1] ^= 1;
+    HOLD(tinyboot_capture_compare(capture, captured, other, captured, compared, sizeof compared) == TINYBOOT_CAPTURES_DIFFER);
+    HOLD(tinyboot_compared_place(compared) == place && tinyboot_compared_fault_of(compared) == 0);
+    HOLD(tinyboot_capture_compare(capture, captured, other, captured - 1, compared, sizeof compared) == TINYBOOT_CUT_SHORT);
+    HOLD(tinyboot_compared_place(compared) == place && tinyboot_compared_fault_of(compared) == 2);
+    HOLD(tinyboot_capture_compare(capture, captured - 1, other, captured - 1, compared, sizeof compared) == TINYBOOT_CUT_SHORT);
+    HOLD(tinyboot_compared_fault_of(compared) == 1);
+    HOLD(tinyboot_capture_next(other, captured - 1, place, found, sizeof found) == TINYBOOT_CUT_SHORT && tinyboot_found_after(found) == place);
+    other[place] = 0x3D;
+    other[1] = 0;
+    HOLD(tinyboot_capture_next(other, captured, place, found, sizeof found) == TINYBOOT_UNKNOWN_MARK);
+    HOLD(tinyboot_capture_next(other, captured, 0, found, sizeof found) == TINYBOOT_COUNT_ZERO);
+    HOLD(tinyboot_capture_next(capture, captured, 0, found, sizeof found - 1) == TINYBOOT_NO_ROOM && found[0] == TINYBOOT_COUNT_ZERO);
+    HOLD(tinyboot_capture_compare(capture, captured, other, captured, compared, sizeof compared - 1) == TINYBOOT_NO_ROOM);
+    return 1;
+}
+
 int main(void)
 {
     size_t i;
@@ -136,5 +187,5 @@ int main(void)
     if (start(tinyboot_answer_mode(answer)) != TINYBOOT_HANDOFF) return 1; /* there is one now */
     if (memcmp(flash, image, sizeof image) != 0) return 1;
     printf("hand-off\n");
-    return refusals() ? 0 : 1;
+    return refusals() && captures() ? 0 : 1;
 }

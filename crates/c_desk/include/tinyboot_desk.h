@@ -3,7 +3,8 @@
  *
  * docs/C.md, The desk, is the page to read first; ../example/desk.c has a desk and a module in one process.
  *
- * What is proved of each call is a definition of ../specs/Desk.antt (cAsked, cHeard), over those of desk_requests and desk_replies. As with tinyboot.h a pointer and
+ * What is proved of each call is a definition of ../specs/Desk.antt (cAsked, cHeard) or ../specs/Captures.antt (cNext, cCompared), over those of desk_requests,
+ * desk_replies and desk_captures. As with tinyboot.h a pointer and
  * a length name that many bytes, no pointer is null, and no buffer that a call writes overlaps another. The functions marked `static inline` are C and not proved.
  */
 #ifndef TINYBOOT_DESK_H
@@ -121,6 +122,51 @@ static inline void tinyboot_read_info(struct tinyboot_info *info, const struct t
     info->key = tinyboot_get(data + 12, 4);
     info->payload = (uint16_t)tinyboot_get(data + 16, 2);
 }
+
+/* Captures: records, each after a mark of two bytes, which way it went and how many bytes it has, 1 to 255. The calls look at the caller's bytes and copy
+ * none. */
+enum tinyboot_capture_mark {
+    TINYBOOT_TO_MODULE = 0x3E,
+    TINYBOOT_FROM_MODULE = 0x3C
+};
+
+/* What stands at a place of a capture, as the result of a call and as the number in its bytes; TINYBOOT_NO_ROOM, before these, where there are too few bytes
+ * to tell it, and nothing is altered then. The place of a fault is that of the record's mark, which was asked for. */
+enum tinyboot_capture_number {
+    TINYBOOT_CAPTURE_END = 0,
+    TINYBOOT_CAPTURE_RECORD = 1,
+    TINYBOOT_UNKNOWN_MARK = 24, /* the first byte is no mark */
+    TINYBOOT_COUNT_ZERO = 25,
+    TINYBOOT_CUT_SHORT = 26 /* the capture ends inside the record */
+};
+
+uint8_t tinyboot_capture_next(const uint8_t *capture, size_t capture_len, size_t at, uint8_t *found, size_t found_len);
+
+/* What tells of it: 0 number, 1 mark, 2 how many bytes the record has (2), 4 to 7 are 0, 8 the place of its first byte (8), 16 the place of what follows (8).
+ * Where no record stands mark, count and first byte are 0, and what follows is the place asked for. */
+#define TINYBOOT_FOUND_SIZE 24
+static inline size_t tinyboot_get_place(const uint8_t *from) { return (size_t)((uint64_t)tinyboot_get(from + 4, 4) << 32 | tinyboot_get(from, 4)); }
+static inline uint8_t tinyboot_found_mark(const uint8_t *found) { return found[1]; }
+static inline size_t tinyboot_found_length(const uint8_t *found) { return tinyboot_get(found + 2, 2); }
+static inline size_t tinyboot_found_after(const uint8_t *found) { return tinyboot_get_place(found + 16); }
+
+/* The record's bytes: that very part of the capture. */
+static inline const uint8_t *tinyboot_found_bytes(const uint8_t *capture, const uint8_t *found) { return capture + tinyboot_get_place(found + 8); }
+
+/* Two captures compared: whether the second has a record that differs from the first's, or comes where the first has ended; or a fault that was met by then,
+ * the first's before the second's, as TINYBOOT_UNKNOWN_MARK and so on. TINYBOOT_NO_ROOM as above. */
+enum tinyboot_compared_number {
+    TINYBOOT_CAPTURES_ALIKE = 0,
+    TINYBOOT_CAPTURES_DIFFER = 1
+};
+
+uint8_t tinyboot_capture_compare(const uint8_t *first, size_t first_len, const uint8_t *second, size_t second_len, uint8_t *compared, size_t compared_len);
+
+/* What tells of it: 0 number, 1 whose fault it is (1 the first's, 2 the second's, 0 none), 2 to 7 are 0, 8 the place of the mark (8): of the second's record
+ * that differs, for tinyboot_capture_next, or of the fault. */
+#define TINYBOOT_COMPARED_SIZE 16
+static inline uint8_t tinyboot_compared_fault_of(const uint8_t *compared) { return compared[1]; }
+static inline size_t tinyboot_compared_place(const uint8_t *compared) { return tinyboot_get_place(compared + 8); }
 
 #ifdef __cplusplus
 }

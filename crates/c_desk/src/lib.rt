@@ -1,5 +1,7 @@
 // The desk's calls for programs in C or Rust: each takes and leaves plain bytes. Ours: the Rust has no such interface.
 
+pub mod captures;
+
 use desk_replies::Contents;
 use desk_replies::Head;
 use desk_replies::Heard;
