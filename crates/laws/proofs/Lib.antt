@@ -2,6 +2,7 @@ pub mod Bit
 pub mod Bools
 pub mod Folds
 pub mod Inverse
+pub mod Linear
 pub mod Lists
 pub mod Loops
 pub mod Low

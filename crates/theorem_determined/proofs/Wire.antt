@@ -53,6 +53,9 @@ crc-start κs a o o' p q i = (plain p q i, o .1)
 pub crc16 : Determined wire_numbers.crc.crc16.ended wire_numbers.crc.crc16.Reads.Post
 crc16 κs a o o' p q i = (plain p q i, o .1)
 
+pub crc16-by-byte : Determined wire_numbers.crc.crc16_by_byte.ended wire_numbers.crc.crc16_by_byte.Reads.Post
+crc16-by-byte κs a o o' p q i = (plain p q i, o .1)
+
 pub read16 : Determined wire_numbers.le.read16.ended wire_numbers.le.read16.Reads.Post
 read16 κs a o o' p q i = (plain p q i, o .1)
 

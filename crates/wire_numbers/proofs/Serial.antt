@@ -2,63 +2,45 @@
 use mathlib.Core.Path.{_≡_, refl, sym, ap, ap₂, _∙_}
 use mathlib.Core.List.{List, [], _∷_, _++_, append-assoc}
 use Prim.Native.Nat.{ℕ, zero, suc, _+_, _*_, _/_, _%_, _^_, _<_, suc-le-suc}
-use native.Mathlib.Nat.{add-zero, zero-lt-suc}
+use native.Mathlib.Nat.{zero-lt-suc}
 use lib.ListN.{length, getD}
 use native.Mathlib.Omega.{arith}
-use borrow.Author.Tests.{le-leb, lt-leb}
-use lib.Dec.{lit<}
-use lib.Bits.{bitXor, xor-lt, xor-mod, xor-shr, xor-block, xor-shifted, xor-zero-r}
+use lib.Bits.{bitXor, xor-lt, xor-mod, xor-shifted, xor-zero-r}
 use Rattle.laws.specs.Fold.{fold}
 use Rattle.laws.proofs.Folds.{parts}
 use Rattle.laws.proofs.Upto.{every, every-list}
-use Rattle.laws.proofs.Xor.{digit, xor-assoc, xor-four}
+use Rattle.laws.proofs.Xor.{digit, xor-assoc}
+use Rattle.laws.proofs.Linear.{Linear, lin-id, lin-shr, lin-shl, lin-then, lin-xor}
 use Rattle.wire_numbers.specs.Crc.{entered, bits, bitsOf, crcFrom}
 use Rattle.wire_numbers.specs.CrcSteps.{shift1, shifts, crcByte, crcBytes}
 
--- one formula for a step's two cases
-flat : ℕ → ℕ
-flat c = bitXor (c * 2 % 65536) (c / 32768 * 0x1021)
-
-step-flat : (c : ℕ) → c < 65536 → shift1 c ≡ flat c
-unfolding shift1 flat
-step-flat c h =
-    digit (λ (d : ℕ). c / 32768 ≡ d → shift1 c ≡ bitXor (c * 2 % 65536) (d * 0x1021))
-    (λ e. rw (lt-leb 32768 c (omega arith), xor-zero-r))
-    (λ e. rw (le-leb 32768 c (omega arith)))
-    (c / 32768)
-    (omega arith)
-    refl
-
-double : (a b : ℕ) → bitXor a b * 2 ≡ bitXor (a * 2) (b * 2)
-double a b = sym (simp add-zero at (xor-block 1 a b 0 0 (lit< tt) (lit< tt)))
-
-poly : (d e : ℕ) → d < 2 → e < 2 → bitXor d e * 0x1021 ≡ bitXor (d * 0x1021) (e * 0x1021)
-poly d e hd he =
+poly : Linear (λ d. d % 2 * 0x1021)
+poly a b =
+    let t : (d e : ℕ) → d < 2 → e < 2 → bitXor d e * 0x1021 ≡ bitXor (d * 0x1021) (e * 0x1021) = λ d e hd he.
     digit (λ (d : ℕ). bitXor d e * 0x1021 ≡ bitXor (d * 0x1021) (e * 0x1021))
     refl
     (digit (λ (e : ℕ). bitXor 1 e * 0x1021 ≡ bitXor 0x1021 (e * 0x1021)) refl refl e he)
     d
-    hd
+    hd in
+    ap (λ (x : ℕ). x * 0x1021) (xor-mod a b 1) ∙ t (a % 2) (b % 2) (omega arith) (omega arith)
 
--- a step is linear in xor
-step-xor : (a b : ℕ) → a < 65536 → b < 65536 → shift1 (bitXor a b) ≡ bitXor (shift1 a) (shift1 b)
-unfolding flat
-step-xor a b ha hb =
-    step-flat (bitXor a b) (xor-lt 16 a b ha hb) ∙
-    ap₂ bitXor
-    (ap (λ (x : ℕ). x % 65536) (double a b) ∙ xor-mod (a * 2) (b * 2) 16)
-    (ap (λ (x : ℕ). x * 0x1021) (xor-shr a b 15) ∙ poly (a / 32768) (b / 32768) (omega arith) (omega arith)) ∙
-    xor-four (a * 2 % 65536) (b * 2 % 65536) (a / 32768 * 0x1021) (b / 32768 * 0x1021) ∙
-    sym (ap₂ bitXor (step-flat a ha) (step-flat b hb))
+step-linear : Linear shift1
+unfolding shift1
+step-linear = lin-xor (λ c. c * 2 % 65536) (λ c. c / 32768 % 2 * 0x1021) (lin-shl 1 16) (lin-then (λ c. c / 32768) (λ d. d % 2 * 0x1021) (lin-shr 15) poly)
 
-step-lt : (a : ℕ) → a < 65536 → shift1 a < 65536
-unfolding flat
-step-lt a h = rw (step-flat a h) (xor-lt 16 (a * 2 % 65536) (a / 32768 * 0x1021) (omega arith) (omega arith))
+pub shifts-linear : (n : ℕ) → Linear (shifts n)
+unfolding shifts
+shifts-linear zero = lin-id
+shifts-linear (suc n) = lin-then shift1 (shifts n) step-linear (shifts-linear n)
+
+step-lt : (a : ℕ) → shift1 a < 65536
+unfolding shift1
+step-lt a = xor-lt 16 (a * 2 % 65536) (a / 32768 % 2 * 0x1021) (omega arith) (omega arith)
 
 -- a register with its top bit clear only moves up
 up : (l : ℕ) → l < 32768 → shift1 l ≡ l * 2
 unfolding shift1
-up l h = rw (lt-leb 32768 l h) (omega arith)
+up l h = let e : l / 32768 ≡ 0 = omega arith in rw (e, xor-zero-r) (omega arith)
 
 -- a bit of the message enters as if it were xored in at the top
 bit : (c m : ℕ) → c < 65536 → m < 2 → entered c m ≡ shift1 (bitXor c (m * 32768))
@@ -67,15 +49,15 @@ bit c m hc hm =
     digit (λ (m : ℕ). entered c m ≡ shift1 (bitXor c (m * 32768)))
     (rw xor-zero-r
     (digit (λ (d : ℕ). c / 32768 ≡ d → entered c 0 ≡ shift1 c)
-    (λ e. rw (e, lt-leb 32768 c (omega arith)))
-    (λ e. rw (e, le-leb 32768 c (omega arith)))
+    (λ e. rw (e, xor-zero-r))
+    (λ e. rw e)
     (c / 32768)
     (omega arith)
     refl))
-    (rw (step-xor c 32768 hc (omega arith))
+    (rw (step-linear c 32768)
     (digit (λ (d : ℕ). c / 32768 ≡ d → entered c 1 ≡ bitXor (shift1 c) 0x1021)
-    (λ e. rw (e, lt-leb 32768 c (omega arith)))
-    (λ e. rw (e, le-leb 32768 c (omega arith), xor-assoc (c * 2 % 65536) 0x1021 0x1021, xor-zero-r))
+    (λ e. rw (e, xor-zero-r))
+    (λ e. rw (e, xor-assoc (c * 2 % 65536) 0x1021 0x1021, xor-zero-r))
     (c / 32768)
     (omega arith)
     refl))
@@ -83,7 +65,7 @@ bit c m hc hm =
     hm
 
 entered-lt : (c m : ℕ) → c < 65536 → m < 2 → entered c m < 65536
-entered-lt c m hc hm = rw (bit c m hc hm) (step-lt (bitXor c (m * 32768)) (xor-lt 16 c (m * 32768) hc (omega arith)))
+entered-lt c m hc hm = rw (bit c m hc hm) (step-lt (bitXor c (m * 32768)))
 
 -- of a number that stands at the register's high end the top bit enters, and the rest moves up
 enter : (c v : ℕ) → c < 65536 → v < 65536 → shift1 (bitXor c v) ≡ bitXor (entered c (v / 32768)) (v * 2 % 65536)
@@ -91,7 +73,7 @@ enter c v hc hv =
     let m : ℕ = v / 32768 in
     let w : v ≡ bitXor (m * 32768) (v % 32768) = sym (xor-shifted m 15 (v % 32768) (omega arith) ∙ omega arith) in
     ap shift1 (ap (bitXor c) w ∙ sym (xor-assoc c (m * 32768) (v % 32768))) ∙
-    step-xor (bitXor c (m * 32768)) (v % 32768) (xor-lt 16 c (m * 32768) hc (omega arith)) (omega arith) ∙
+    step-linear (bitXor c (m * 32768)) (v % 32768) ∙
     ap₂ bitXor (sym (bit c m hc (omega arith))) (up (v % 32768) (omega arith) ∙ omega arith)
 
 -- the n top bits of a number of 16, and what is left when they are gone
@@ -120,7 +102,7 @@ byte-bits c b hc hb =
 shifts-lt : (n a : ℕ) → a < 65536 → shifts n a < 65536
 unfolding shifts
 shifts-lt zero a h = h
-shifts-lt (suc n) a h = shifts-lt n (shift1 a) (step-lt a h)
+shifts-lt (suc n) a h = shifts-lt n (shift1 a) (step-lt a)
 
 byte-lt : (c b : ℕ) → c < 65536 → b < 256 → crcByte c b < 65536
 unfolding crcByte

@@ -1,8 +1,11 @@
-// Translated from tinyboot, lib/protocol/src/crc.rs (MIT OR Apache-2.0); changed.
+// Translated from tinyboot, lib/protocol/src/crc.rs (MIT OR Apache-2.0); changed: all steps of a byte, or of eight, at once.
 
+use crate::le::read32;
 ghost use mathlib.Core.Path.{_≡_};
+ghost use mathlib.Core.List.{[], _∷_};
+ghost use lib.ListN.{drop};
 ghost use Rattle.wire_numbers.specs.Crc.{crcStart, crcFrom};
-ghost use Rattle.wire_numbers.specs.CrcSteps.{shift1, crcByte};
+ghost use Rattle.wire_numbers.specs.CrcSteps.{crcByte, crcBytes, crcLong};
 
 // The register's value before the first byte.
 pub const CRC_INIT: u16 = 0xFFFF;
@@ -14,25 +17,44 @@ pub fn crc_start() -> u16
     CRC_INIT
 }
 
-// One step of the register, no message bit entering.
-fn step(crc: u16) -> u16
-    ensures { λ r. ⌜ r ≡ shift1 crc ⌝ }
-{
-    if crc >= 0x8000 {
-        (crc << 1) ^ 0x1021
-    } else {
-        crc << 1
-    }
-}
-
-// A counted loop: LLVM turns it into a table, which it does not with the Rust's bottom-tested one.
+// One byte more.
 fn byte(crc: u16, b: u8) -> u16
     ensures { λ r. ⌜ r ≡ crcByte crc b ⌝ }
 {
-    let mut c = crc ^ ((b as u16) << 8);
-    let mut k: u32 = 0;
-    while k < 8 {
-        c = step(c);
+    let v = crc ^ ((b as u16) << 8);
+    let x = (v >> 8) ^ (v >> 12);
+    (v << 8) ^ (x << 12) ^ (x << 5) ^ x
+}
+
+// The steps of eight bytes that were xored to the register, which stands at the high end: a division by the polynomial, which has so few terms that the
+// quotient is a handful of shifts.
+fn long(h: u64) -> u16
+    ensures { λ r. ⌜ r ≡ crcLong h ⌝ }
+{
+    let a = h ^ (h >> 4) ^ (h >> 11) ^ (h >> 16);
+    let b = a ^ (a >> 8) ^ (a >> 22) ^ (a >> 32);
+    let d = b ^ (b >> 16) ^ (b >> 44);
+    let e = d ^ (d >> 32);
+    ((e ^ (e << 5) ^ (e << 12)) % 65536) as u16
+}
+
+// Eight bytes more.
+fn eight(crc: u16, b0: u8, b1: u8, b2: u8, b3: u8, b4: u8, b5: u8, b6: u8, b7: u8) -> u16
+    ensures { λ r. ⌜ r ≡ crcBytes crc (b0 ∷ b1 ∷ b2 ∷ b3 ∷ b4 ∷ b5 ∷ b6 ∷ b7 ∷ []) ⌝ }
+{
+    let v = read32(b3, b2, b1, b0);
+    let w = read32(b7, b6, b5, b4);
+    long(((crc as u64) << 48) ^ ((v as u64) * 0x1_0000_0000 + (w as u64)))
+}
+
+// The bytes from i on, one by one.
+fn rest(crc: u16, bytes: &[u8], i: usize) -> u16
+    ensures { λ r. ⌜ r ≡ crcBytes crc (drop i (now (bytes .entry))) ⌝ }
+{
+    let mut c = crc;
+    let mut k = i;
+    while k < bytes.len() {
+        c = byte(c, bytes[k]);
         k += 1;
     }
     c
@@ -44,9 +66,26 @@ pub fn crc16(crc: u16, bytes: &[u8]) -> u16
 {
     let mut c = crc;
     let mut i = 0;
-    while i < bytes.len() {
-        c = byte(c, bytes[i]);
-        i += 1;
+    while bytes.len() - i >= 8 {
+        c = eight(
+            c,
+            bytes[i],
+            bytes[i + 1],
+            bytes[i + 2],
+            bytes[i + 3],
+            bytes[i + 4],
+            bytes[i + 5],
+            bytes[i + 6],
+            bytes[i + 7],
+        );
+        i += 8;
     }
-    c
+    rest(c, bytes, i)
+}
+
+// The same, a byte at a time: for a machine of 32 bits, or where code has to be small.
+pub fn crc16_by_byte(crc: u16, bytes: &[u8]) -> u16
+    ensures { λ r. ⌜ r ≡ crcFrom crc (now (bytes .entry)) ⌝ }
+{
+    rest(crc, bytes, 0)
 }
