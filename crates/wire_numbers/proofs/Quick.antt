@@ -112,7 +112,7 @@ two c b0 b1 hc h0 h1 =
     ap (shifts 8) (shifts-linear 8 (bitXor c (b0 * 256)) b1 ∙ ap (bitXor (shifts 8 (bitXor c (b0 * 256)))) (moves b1 h1))
 
 pub eight-bytes : (c b0 b1 b2 b3 b4 b5 b6 b7 : ℕ) → c < 65536 → b0 < 256 → b1 < 256 → b2 < 256 → b3 < 256 → b4 < 256 → b5 < 256 → b6 < 256 → b7 < 256
-    → crcLong (bitXor (c * 2 ^ 48 % 2 ^ 64) (lowFirst (b3 ∷ b2 ∷ b1 ∷ b0 ∷ []) * 2 ^ 32 + lowFirst (b7 ∷ b6 ∷ b5 ∷ b4 ∷ [])))
+    → crcLong (bitXor (c * 2 ^ 48 % 2 ^ 64) (lowFirst (b7 ∷ b6 ∷ b5 ∷ b4 ∷ b3 ∷ b2 ∷ b1 ∷ b0 ∷ [])))
     ≡ crcBytes c (b0 ∷ b1 ∷ b2 ∷ b3 ∷ b4 ∷ b5 ∷ b6 ∷ b7 ∷ [])
 unfolding fold
 eight-bytes c b0 b1 b2 b3 b4 b5 b6 b7 hc h0 h1 h2 h3 h4 h5 h6 h7 =
@@ -120,7 +120,7 @@ eight-bytes c b0 b1 b2 b3 b4 b5 b6 b7 hc h0 h1 h2 h3 h4 h5 h6 h7 =
     let r : ℕ = ((((b2 * 256 + b3) * 256 + b4) * 256 + b5) * 256 + b6) * 256 + b7 in
     let hv : bitXor c v < 65536 = xor-lt 16 c v hc (omega arith) in
     let k : c * 2 ^ 48 % 2 ^ 64 ≡ c * 2 ^ 48 + 0 = omega arith in
-    let l : lowFirst (b3 ∷ b2 ∷ b1 ∷ b0 ∷ []) * 2 ^ 32 + lowFirst (b7 ∷ b6 ∷ b5 ∷ b4 ∷ []) ≡ v * 2 ^ 48 + r = omega arith in
+    let l : lowFirst (b7 ∷ b6 ∷ b5 ∷ b4 ∷ b3 ∷ b2 ∷ b1 ∷ b0 ∷ []) ≡ v * 2 ^ 48 + r = omega arith in
     let j : bitXor (c * 2 ^ 48 + 0) (v * 2 ^ 48 + r) ≡ bitXor c v * 2 ^ 48 + r = xor-block 48 c v 0 r (omega arith) (omega arith) in
     let w2 : ℕ = bitXor c v * 256 + b2 in
     let w3 : ℕ = w2 * 256 + b3 in

@@ -1,9 +1,9 @@
 // Translated from tinyboot, lib/protocol/src/crc.rs (MIT OR Apache-2.0); changed: all steps of a byte, or of eight, at once.
 
-use crate::le::read32;
 ghost use mathlib.Core.Path.{_≡_};
 ghost use mathlib.Core.List.{[], _∷_};
 ghost use lib.ListN.{drop};
+ghost use Rattle.laws.specs.Low.{lowFirst};
 ghost use Rattle.wire_numbers.specs.Crc.{crcStart, crcFrom};
 ghost use Rattle.wire_numbers.specs.CrcSteps.{crcByte, crcBytes, crcLong};
 
@@ -38,13 +38,22 @@ fn long(h: u64) -> u16
     ((e ^ (e << 5) ^ (e << 12)) % 65536) as u16
 }
 
+// Eight bytes as one number, the first at its high end. Added in pairs: so the compiler finds that it is one load.
+fn high_first(b0: u8, b1: u8, b2: u8, b3: u8, b4: u8, b5: u8, b6: u8, b7: u8) -> u64
+    ensures { λ r. ⌜ r ≡ lowFirst (b7 ∷ b6 ∷ b5 ∷ b4 ∷ b3 ∷ b2 ∷ b1 ∷ b0 ∷ []) ⌝ }
+{
+    let v = (b0 as u64) * 0x0100_0000_0000_0000 + (b1 as u64) * 0x1_0000_0000_0000;
+    let w = (b2 as u64) * 0x0100_0000_0000 + (b3 as u64) * 0x1_0000_0000;
+    let x = (b4 as u64) * 0x0100_0000 + (b5 as u64) * 0x1_0000;
+    let y = (b6 as u64) * 0x0100 + (b7 as u64);
+    (v + w) + (x + y)
+}
+
 // Eight bytes more.
 fn eight(crc: u16, b0: u8, b1: u8, b2: u8, b3: u8, b4: u8, b5: u8, b6: u8, b7: u8) -> u16
     ensures { λ r. ⌜ r ≡ crcBytes crc (b0 ∷ b1 ∷ b2 ∷ b3 ∷ b4 ∷ b5 ∷ b6 ∷ b7 ∷ []) ⌝ }
 {
-    let v = read32(b3, b2, b1, b0);
-    let w = read32(b7, b6, b5, b4);
-    long(((crc as u64) << 48) ^ ((v as u64) * 0x1_0000_0000 + (w as u64)))
+    long(((crc as u64) << 48) ^ high_first(b0, b1, b2, b3, b4, b5, b6, b7))
 }
 
 // The bytes from i on, one by one.
