@@ -111,11 +111,30 @@ module _ (cap : ℕ) (device : Bool) (f : List ℕ) (g : ℕ) (w : Well cap devi
         more x p (take (g - 2) (drop 2 f) ++ x) (over p f) (g + length x) (ap (λ (y : List ℕ). y ++ x) (begun-part cap f g i)) (sync-part g h) n o
         (sym (store-short cap f z p (omega arith) (omega arith)))
 
-  -- one byte of the header, but for its last
+  -- m of the bytes at hand, laid where they belong
+  run-turn : (l : List ℕ) (i m : ℕ) → 0 < m → i + m ≤ length l → g + m ≤ 12 + cap →
+      After cap device f g (take m (drop i l)) (over (take g f ++ take m (drop i l)) f) (g + length (take m (drop i l))) Going →
+      Turned cap device f g l i (paste f g (drop i l) m) (g + m) m Going
+  run-turn l i m z a b s =
+      let n : length (drop i l) ≡ length l - i = length-drop i l in
+      let c : length (take m (drop i l)) ≡ m = length-take-le m (drop i l) (omega arith) in
+      let e : length (take g f ++ take m (drop i l)) ≡ g + m = length-paste-head f g (drop i l) m (omega (arith, w .whole)) (omega arith) in
+      record { after = rw (c, e) at s; some = z; within = a }
+
+  -- the header, but for its last byte
+  header-run : (x : List ℕ) → 2 ≤ g → g + length x ≤ 9 → After cap device f g x (over (take g f ++ x) f) (g + length x) Going
+  header-run x h i =
+      let n : length (take g f ++ x) ≡ g + length x = simp (length-append, length-take-le g f (omega (arith, w .whole))) in
+      laid h x (omega arith) (omega arith) (inl (omega arith)) (omega arith)
+
   pub header-step : (b : ℕ) → 2 ≤ g → g < 9 → After cap device f g (b ∷ []) (set f g b) (g + 1) Going
-  header-step b h i =
-      let n : length (take g f ++ (b ∷ [])) ≡ g + 1 = simp (length-append, length-take-le g f (omega (arith, w .whole))) in
-      rw (← over-set f g b (omega (arith, w .whole))) (laid h (b ∷ []) (omega arith) (omega arith) (inl (omega arith)) (omega arith))
+  header-step b h i = rw (← over-set f g b (omega (arith, w .whole))) (header-run (b ∷ []) h (omega arith))
+
+  header-turn : (l : List ℕ) (i m : ℕ) → 0 < m → i + m ≤ length l → 2 ≤ g → g + m ≤ 9 → Turned cap device f g l i (paste f g (drop i l) m) (g + m) m Going
+  header-turn l i m z a h b =
+      let n : length (drop i l) ≡ length l - i = length-drop i l in
+      let c : length (take m (drop i l)) ≡ m = length-take-le m (drop i l) (omega arith) in
+      run-turn l i m z a (omega arith) (header-run (take m (drop i l)) h (omega arith))
 
   -- the header's last byte
   module _ (b : ℕ) (e : g ≡ 9) where
@@ -191,8 +210,7 @@ module _ (cap : ℕ) (device : Bool) (f : List ℕ) (g : ℕ) (w : Well cap devi
         let s : lenOf f ≤ cap = small in
         let n : length (drop i l) ≡ length l - i = length-drop i l in
         let c : length (take m (drop i l)) ≡ m = length-take-le m (drop i l) (omega arith) in
-        let e : length (take g f ++ take m (drop i l)) ≡ g + m = length-paste-head f g (drop i l) m (omega (arith, w .whole)) (omega arith) in
-        record { after = rw (c, e) at (data-step (take m (drop i l)) (omega arith)); some = z; within = a }
+        run-turn l i m z a (omega arith) (data-step (take m (drop i l)) (omega arith))
 
     -- the CRC's low byte
     pub low-step : (b : ℕ) → g ≡ 10 + lenOf f → After cap device f g (b ∷ []) (set f (10 + cap) b) (g + 1) Going
@@ -238,23 +256,13 @@ module _ (cap : ℕ) (device : Bool) (f : List ℕ) (g : ℕ) (w : Well cap devi
         ) refl)
         (set-high cap f (w .whole) b ∙ sym (store-crc cap f (w .whole) x s))
 
-  -- no data are wanted: short of the header's end, or past the data
+  -- where nothing is wanted past the header, the data are there
   pub wanted-none : wantedOf f g ≡ 0 → 10 ≤ g → 10 + lenOf f ≤ g
-  wanted-none e h = let z : 10 + lenOf f - g ≡ 0 = rw (le-ltb g 10 h) at e in omega arith
+  wanted-none e h = let z : 10 + lenOf f - g ≡ 0 = rw (le-ltb g 2 (omega arith), le-ltb g 10 h) at e in omega arith
 
-  -- as many data bytes as are wanted and at hand
+  -- as many bytes as are wanted and at hand
   module _ (l : List ℕ) (i m : ℕ) (a : i < length l) (z : wantedOf f g ≡ 0 → ⊥)
       (e : m ≡ pick (leb (wantedOf f g) (length l - i)) (wantedOf f g) (length l - i)) where
-    past-header : 10 ≤ g
-    past-header = go (ltb g 10) refl
-      where
-        go : (t : Bool) → ltb g 10 ≡ t → 10 ≤ g
-        go true u = absurd (z (rw u refl))
-        go false u = ltb-false _ _ u
-
-    wanted-past : wantedOf f g ≡ 10 + lenOf f - g
-    wanted-past = simp (le-ltb g 10 past-header)
-
     few : (0 < m) × (m ≤ wantedOf f g) × (m ≤ length l - i)
     few = go (leb (wantedOf f g) (length l - i)) refl
       where
@@ -262,11 +270,28 @@ module _ (cap : ℕ) (device : Bool) (f : List ℕ) (g : ℕ) (w : Well cap devi
         go true u = let k : wantedOf f g ≤ length l - i = leb-true _ _ u in let y : m ≡ wantedOf f g = rw u at e in (omega arith, omega arith, omega arith)
         go false u = let k : length l - i < wantedOf f g = leb-false _ _ u in let y : m ≡ length l - i = rw u at e in (omega arith, omega arith, omega arith)
 
+    -- of the header or of the data
+    side : (P : Type 0) → (2 ≤ g → g + m ≤ 9 → P) → (10 ≤ g → g + m ≤ 10 + lenOf f → P) → P
+    side P p q = go (ltb g 2) (ltb g 10) refl refl
+      where
+        go : (t u : Bool) → ltb g 2 ≡ t → ltb g 10 ≡ u → P
+        go true u x y = absurd (z (rw x refl))
+        go false true x y = let k : wantedOf f g ≡ 9 - g = rw (x, y) refl in p (ltb-false _ _ x) (omega (arith, few))
+        go false false x y =
+            let k : wantedOf f g ≡ 10 + lenOf f - g = rw (x, y) refl in q (ltb-false _ _ y) (omega (arith, few, ltb-false g 10 y))
+
     pub wanted-fits : (length f ≡ 12 + cap) × (g + m ≤ 12 + cap) × (i + m ≤ length l)
-    wanted-fits = let s : lenOf f ≤ cap = small past-header in (w .whole, omega (arith, few, wanted-past, w .inside past-header), omega (arith, few))
+    wanted-fits = (
+      w .whole,
+      side (g + m ≤ 12 + cap) (λ h k. omega arith) (λ h k. let s : lenOf f ≤ cap = small h in omega arith),
+      omega (arith, few),
+    )
 
     pub wanted-turn : Turned cap device f g l i (paste f g (drop i l) m) (g + m) m Going
-    wanted-turn = data-turn past-header l i m (few .0) (omega (arith, few)) (omega (arith, few, wanted-past))
+    wanted-turn =
+        side (Turned cap device f g l i (paste f g (drop i l) m) (g + m) m Going)
+        (λ h k. header-turn l i m (few .0) (omega (arith, few)) h k)
+        (λ h k. data-turn h l i m (few .0) (omega (arith, few)) k)
 
   -- one byte that is not data
   pub byte-turn : (l : List ℕ) (i : ℕ) → i < length l → (f' : List ℕ) (g' : ℕ) (end : End) → After cap device f g (getD l i 0 ∷ []) f' g' end →

@@ -112,9 +112,9 @@ pub record Well (cap : ℕ) (device : Bool) (f : List ℕ) (g : ℕ) : Type 0 wh
 abbrev pub huntedOf : ℕ → ℕ → ℕ
 huntedOf g b = pick (eqb g 1) (pick (eqb b 0x55) 2 (pick (eqb b 0xAA) 1 0)) (pick (eqb b 0xAA) 1 0)
 
--- how many data bytes are still to come, of a frame of which g bytes have begun
+-- how many bytes that are only stored are still to come, of a frame of which g bytes have begun: those of the header but for its last, or the data
 abbrev pub wantedOf : List ℕ → ℕ → ℕ
-wantedOf f g = pick (ltb g 10) 0 (10 + lenOf f - g)
+wantedOf f g = pick (ltb g 2) 0 (pick (ltb g 10) (9 - g) (10 + lenOf f - g))
 
 -- what the bytes x do to a frame: whatever l follows, the reading goes on from the frame after them; or it is over at their end
 abbrev pub After : ℕ → Bool → List ℕ → ℕ → List ℕ → List ℕ → ℕ → End → Type 0

@@ -2,7 +2,9 @@
 use mathlib.Core.Path.{_≡_, sym, ap, ap₂, _∙_}
 use mathlib.Core.List.{List, [], _∷_}
 use Prim.Native.Nat.{ℕ, _+_, _*_, _/_, _%_, _^_, _<_}
+use native.Mathlib.Nat.{add-zero}
 use native.Mathlib.Omega.{arith}
+use lib.Pow.{pow-pos}
 use lib.Bits.{bitXor, xor-lt, xor-block, xor-shifted}
 use Rattle.laws.specs.Fold.{fold}
 use Rattle.laws.specs.Low.{lowFirst}
@@ -111,6 +113,24 @@ two c b0 b1 hc h0 h1 =
     ap (shifts 16) e ∙
     ap (shifts 8) (shifts-linear 8 (bitXor c (b0 * 256)) b1 ∙ ap (bitXor (shifts 8 (bitXor c (b0 * 256)))) (moves b1 h1))
 
+-- the register at the high end of a word of k digits more
+placed : (k c v r : ℕ) → r < 2 ^ k → bitXor (c * 2 ^ k) (v * 2 ^ k + r) ≡ bitXor c v * 2 ^ k + r
+placed k c v r h = ap (λ (x : ℕ). bitXor x (v * 2 ^ k + r)) (sym (add-zero (c * 2 ^ k))) ∙ xor-block k c v 0 r (pow-pos k) h
+
+pub four-bytes : (c b0 b1 b2 b3 : ℕ) → c < 65536 → b0 < 256 → b1 < 256 → b2 < 256 → b3 < 256
+    → crcLong (bitXor (c * 2 ^ 16 % 2 ^ 64) (lowFirst (b3 ∷ b2 ∷ b1 ∷ b0 ∷ []))) ≡ crcBytes c (b0 ∷ b1 ∷ b2 ∷ b3 ∷ [])
+unfolding fold
+four-bytes c b0 b1 b2 b3 hc h0 h1 h2 h3 =
+    let v : ℕ = b0 * 256 + b1 in
+    let r : ℕ = b2 * 256 + b3 in
+    let hv : bitXor c v < 65536 = xor-lt 16 c v hc (omega arith) in
+    let k : c * 2 ^ 16 % 2 ^ 64 ≡ c * 2 ^ 16 = omega arith in
+    let l : lowFirst (b3 ∷ b2 ∷ b1 ∷ b0 ∷ []) ≡ v * 2 ^ 16 + r = omega arith in
+    let w2 : ℕ = bitXor c v * 256 + b2 in
+    let m : bitXor c v * 2 ^ 16 + r ≡ w2 * 256 + b3 = omega arith in
+    let e2 = one-more (bitXor c v) b2 _ (omega arith) h2 (two c b0 b1 hc h0 h1) in
+    ap crcLong (ap₂ bitXor k l ∙ placed 16 c v r (omega arith) ∙ m) ∙ one-more w2 b3 _ (omega arith) h3 e2
+
 pub eight-bytes : (c b0 b1 b2 b3 b4 b5 b6 b7 : ℕ) → c < 65536 → b0 < 256 → b1 < 256 → b2 < 256 → b3 < 256 → b4 < 256 → b5 < 256 → b6 < 256 → b7 < 256
     → crcLong (bitXor (c * 2 ^ 48 % 2 ^ 64) (lowFirst (b7 ∷ b6 ∷ b5 ∷ b4 ∷ b3 ∷ b2 ∷ b1 ∷ b0 ∷ [])))
     ≡ crcBytes c (b0 ∷ b1 ∷ b2 ∷ b3 ∷ b4 ∷ b5 ∷ b6 ∷ b7 ∷ [])
@@ -119,9 +139,8 @@ eight-bytes c b0 b1 b2 b3 b4 b5 b6 b7 hc h0 h1 h2 h3 h4 h5 h6 h7 =
     let v : ℕ = b0 * 256 + b1 in
     let r : ℕ = ((((b2 * 256 + b3) * 256 + b4) * 256 + b5) * 256 + b6) * 256 + b7 in
     let hv : bitXor c v < 65536 = xor-lt 16 c v hc (omega arith) in
-    let k : c * 2 ^ 48 % 2 ^ 64 ≡ c * 2 ^ 48 + 0 = omega arith in
+    let k : c * 2 ^ 48 % 2 ^ 64 ≡ c * 2 ^ 48 = omega arith in
     let l : lowFirst (b7 ∷ b6 ∷ b5 ∷ b4 ∷ b3 ∷ b2 ∷ b1 ∷ b0 ∷ []) ≡ v * 2 ^ 48 + r = omega arith in
-    let j : bitXor (c * 2 ^ 48 + 0) (v * 2 ^ 48 + r) ≡ bitXor c v * 2 ^ 48 + r = xor-block 48 c v 0 r (omega arith) (omega arith) in
     let w2 : ℕ = bitXor c v * 256 + b2 in
     let w3 : ℕ = w2 * 256 + b3 in
     let w4 : ℕ = w3 * 256 + b4 in
@@ -134,4 +153,4 @@ eight-bytes c b0 b1 b2 b3 b4 b5 b6 b7 hc h0 h1 h2 h3 h4 h5 h6 h7 =
     let e4 = one-more w3 b4 _ (omega arith) h4 e3 in
     let e5 = one-more w4 b5 _ (omega arith) h5 e4 in
     let e6 = one-more w5 b6 _ (omega arith) h6 e5 in
-    ap crcLong (ap₂ bitXor k l ∙ j ∙ m) ∙ one-more w6 b7 _ (omega arith) h7 e6
+    ap crcLong (ap₂ bitXor k l ∙ placed 48 c v r (omega arith) ∙ m) ∙ one-more w6 b7 _ (omega arith) h7 e6

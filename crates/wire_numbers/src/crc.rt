@@ -1,8 +1,10 @@
 // Translated from tinyboot, lib/protocol/src/crc.rs (MIT OR Apache-2.0); changed: all steps of a byte, or of eight, at once.
 
+use crate::le::read32;
 ghost use mathlib.Core.Path.{_≡_};
 ghost use mathlib.Core.List.{[], _∷_};
-ghost use lib.ListN.{drop};
+ghost use Prim.Native.Nat.{_≤_};
+ghost use lib.ListN.{length, drop};
 ghost use Rattle.laws.specs.Low.{lowFirst};
 ghost use Rattle.wire_numbers.specs.Crc.{crcStart, crcFrom};
 ghost use Rattle.wire_numbers.specs.CrcSteps.{crcByte, crcBytes, crcLong};
@@ -69,6 +71,25 @@ fn rest(crc: u16, bytes: &[u8], i: usize) -> u16
     c
 }
 
+// Four bytes more.
+fn four(crc: u16, b0: u8, b1: u8, b2: u8, b3: u8) -> u16
+    ensures { λ r. ⌜ r ≡ crcBytes crc (b0 ∷ b1 ∷ b2 ∷ b3 ∷ []) ⌝ }
+{
+    long(((crc as u64) << 16) ^ (read32(b3, b2, b1, b0) as u64))
+}
+
+// The bytes from i on, of which there are few.
+fn few(crc: u16, bytes: &[u8], i: usize) -> u16
+    requires { ⌜ i ≤ length (now bytes) ⌝ }
+    ensures { λ r. ⌜ r ≡ crcBytes crc (drop i (now (bytes .entry))) ⌝ }
+{
+    if bytes.len() - i < 4 {
+        return rest(crc, bytes, i);
+    }
+    let c = four(crc, bytes[i], bytes[i + 1], bytes[i + 2], bytes[i + 3]);
+    rest(c, bytes, i + 4)
+}
+
 // The register `crc` after these bytes. To take up a message in parts, pass the last result on.
 pub fn crc16(crc: u16, bytes: &[u8]) -> u16
     ensures { λ r. ⌜ r ≡ crcFrom crc (now (bytes .entry)) ⌝ }
@@ -89,7 +110,7 @@ pub fn crc16(crc: u16, bytes: &[u8]) -> u16
         );
         i += 8;
     }
-    rest(c, bytes, i)
+    few(c, bytes, i)
 }
 
 // The same, a byte at a time: for a machine of 32 bits, or where code has to be small.

@@ -127,13 +127,16 @@ fn fill(f: &mut [u8], got: usize, bytes: &[u8], at: usize, m: usize)
     copy(f, got, &a, 0, m);
 }
 
-// How many data bytes are still to come: none before the header is whole.
+// How many bytes are still to come that are only stored: the header's but for its last, or the data.
 fn wanted(f: &[u8], got: usize) -> usize
     requires { ⌜ length (now f) ≡ 64 ⌝ }
     ensures { λ r. ⌜ r ≡ wantedOf (now (f .entry)) got ⌝ }
 {
-    if got < 10 {
+    if got < 2 {
         return 0;
+    }
+    if got < 10 {
+        return 9 - got;
     }
     let end = 10 + len(f);
     if end <= got {
@@ -172,7 +175,7 @@ fn tail(f: &mut [u8], got: usize, device: bool, b: u8) -> Step
     }
 }
 
-// A byte that is not data.
+// A byte that is looked at.
 fn push(f: &mut [u8], got: usize, device: bool, b: u8) -> Step
     requires { ⌜ (10 ≤ got → 10 + lenOf (now f) ≤ got) × Well 52 device (now f) got ⌝ }
     ensures { λ r. ⌜ After 52 device (now (f .entry)) got (b ∷ []) (now (f .exit)) (r .got) (r .end) ⌝ }
@@ -190,7 +193,7 @@ fn push(f: &mut [u8], got: usize, device: bool, b: u8) -> Step
     tail(f, got, device, b)
 }
 
-// One turn, from the byte at `at`: as many data bytes as are wanted and at hand, or one byte that is not data.
+// One turn, from the byte at `at`: as many bytes as are wanted and at hand, or one byte that is looked at.
 fn take_turn(f: &mut [u8], got: usize, device: bool, bytes: &[u8], at: usize) -> Turn
     requires { ⌜ (at < length (now bytes)) × Well 52 device (now f) got ⌝ }
     ensures { λ r. ⌜ Turned 52 device (now (f .entry)) got (now (bytes .entry)) at (now (f .exit)) (r .got) (r .taken) (r .end) ⌝ }

@@ -27,7 +27,7 @@ returns c =
     let at-entry = c .before .before .before .before in
     let a = at-entry .args in
     let s = c .before .before .before .shared-slice-known .given in
-    c .rest .ensures ∙ c .before .before .loop .inv .1 ∙ serial (a .crc) (a .bytes .now) (omega arith) (λ i k. omega (arith, s i))
+    c .few .ensures ∙ c .before .before .loop .inv .1 ∙ serial (a .crc) (a .bytes .now) (omega arith) (λ i k. omega (arith, s i))
 
 pub crc16-spec : {M : Type 1} → statement M
 crc16-spec =
