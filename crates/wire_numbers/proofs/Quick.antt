@@ -1,9 +1,11 @@
 -- The steps of a byte, and of eight, at once: both sides respect xor, so that the powers of two are all there is to try.
 use mathlib.Core.Path.{_≡_, sym, ap, ap₂, _∙_}
 use mathlib.Core.List.{List, [], _∷_}
-use Prim.Native.Nat.{ℕ, _+_, _*_, _/_, _%_, _^_, _<_}
+use Prim.Native.Nat.{ℕ, _+_, _-_, _*_, _/_, _%_, _^_, _<_}
 use native.Mathlib.Nat.{add-zero}
 use native.Mathlib.Omega.{arith}
+use lib.ListN.{length, take, drop, length-drop}
+use lib.Seq.{take-all}
 use lib.Pow.{pow-pos}
 use lib.Bits.{bitXor, xor-lt, xor-block, xor-shifted}
 use Rattle.laws.specs.Fold.{fold}
@@ -154,3 +156,7 @@ eight-bytes c b0 b1 b2 b3 b4 b5 b6 b7 hc h0 h1 h2 h3 h4 h5 h6 h7 =
     let e5 = one-more w4 b5 _ (omega arith) h5 e4 in
     let e6 = one-more w5 b6 _ (omega arith) h6 e5 in
     ap crcLong (ap₂ bitXor k l ∙ placed 48 c v r (omega arith) ∙ m) ∙ one-more w6 b7 _ (omega arith) h7 e6
+
+-- a part that goes to the slice's end
+pub to-the-end : (l : List ℕ) (i : ℕ) → take (length l - i) (drop i l) ≡ drop i l
+to-the-end l i = let e : length (drop i l) ≡ length l - i = length-drop i l in take-all (length l - i) (drop i l) (omega arith)

@@ -3,8 +3,6 @@
 use crate::le::read32;
 ghost use mathlib.Core.Path.{_≡_};
 ghost use mathlib.Core.List.{[], _∷_};
-ghost use Prim.Native.Nat.{_≤_};
-ghost use lib.ListN.{length, drop};
 ghost use Rattle.laws.specs.Low.{lowFirst};
 ghost use Rattle.wire_numbers.specs.Crc.{crcStart, crcFrom};
 ghost use Rattle.wire_numbers.specs.CrcSteps.{crcByte, crcBytes, crcLong};
@@ -58,15 +56,15 @@ fn eight(crc: u16, b0: u8, b1: u8, b2: u8, b3: u8, b4: u8, b5: u8, b6: u8, b7: u
     long(((crc as u64) << 48) ^ high_first(b0, b1, b2, b3, b4, b5, b6, b7))
 }
 
-// The bytes from i on, one by one.
-fn rest(crc: u16, bytes: &[u8], i: usize) -> u16
-    ensures { λ r. ⌜ r ≡ crcBytes crc (drop i (now (bytes .entry))) ⌝ }
+// These bytes, one by one.
+fn rest(crc: u16, bytes: &[u8]) -> u16
+    ensures { λ r. ⌜ r ≡ crcBytes crc (now (bytes .entry)) ⌝ }
 {
     let mut c = crc;
-    let mut k = i;
-    while k < bytes.len() {
-        c = byte(c, bytes[k]);
-        k += 1;
+    let mut i = 0;
+    while i < bytes.len() {
+        c = byte(c, bytes[i]);
+        i += 1;
     }
     c
 }
@@ -78,16 +76,15 @@ fn four(crc: u16, b0: u8, b1: u8, b2: u8, b3: u8) -> u16
     long(((crc as u64) << 16) ^ (read32(b3, b2, b1, b0) as u64))
 }
 
-// The bytes from i on, of which there are few.
-fn few(crc: u16, bytes: &[u8], i: usize) -> u16
-    requires { ⌜ i ≤ length (now bytes) ⌝ }
-    ensures { λ r. ⌜ r ≡ crcBytes crc (drop i (now (bytes .entry))) ⌝ }
+// A few bytes. Their slice is made anew for each call: one that is handed on as it came the compiler keeps in memory.
+fn few(crc: u16, bytes: &[u8]) -> u16
+    ensures { λ r. ⌜ r ≡ crcBytes crc (now (bytes .entry)) ⌝ }
 {
-    if bytes.len() - i < 4 {
-        return rest(crc, bytes, i);
+    if bytes.len() < 4 {
+        return rest(crc, &bytes[0..]);
     }
-    let c = four(crc, bytes[i], bytes[i + 1], bytes[i + 2], bytes[i + 3]);
-    rest(c, bytes, i + 4)
+    let c = four(crc, bytes[0], bytes[1], bytes[2], bytes[3]);
+    rest(c, &bytes[4..])
 }
 
 // The register `crc` after these bytes. To take up a message in parts, pass the last result on.
@@ -110,12 +107,12 @@ pub fn crc16(crc: u16, bytes: &[u8]) -> u16
         );
         i += 8;
     }
-    few(c, bytes, i)
+    few(c, &bytes[i..])
 }
 
 // The same, a byte at a time: for a machine of 32 bits, or where code has to be small.
 pub fn crc16_by_byte(crc: u16, bytes: &[u8]) -> u16
     ensures { λ r. ⌜ r ≡ crcFrom crc (now (bytes .entry)) ⌝ }
 {
-    rest(crc, bytes, 0)
+    rest(crc, bytes)
 }

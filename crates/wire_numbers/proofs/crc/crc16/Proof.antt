@@ -1,4 +1,4 @@
-use mathlib.Core.Path.{_≡_, _∙_}
+use mathlib.Core.Path.{_≡_, ap, _∙_}
 use Prim.Native.Nat.{_≤_, _-_}
 use native.Mathlib.Omega.{arith}
 use lib.ListN.{length, drop}
@@ -6,6 +6,7 @@ use borrow.Author.Needs.{needs}
 use Rattle.laws.proofs.Loops.{turned-eight}
 use Rattle.wire_numbers.specs.CrcSteps.{crcByte, crcBytes}
 use Rattle.wire_numbers.proofs.Serial.{serial}
+use Rattle.wire_numbers.proofs.Quick.{to-the-end}
 use Rattle.wire_numbers.proofs.crc.crc16.Statement.{statement}
 use Rattle.wire_numbers.proofs.crc.crc16.Tie as tie
 
@@ -24,10 +25,11 @@ loop-again c =
 
 returns : tie.Need-returns Inv-loop μ-loop
 returns c =
-    let at-entry = c .before .before .before .before in
-    let a = at-entry .args in
-    let s = c .before .before .before .shared-slice-known .given in
-    c .few .ensures ∙ c .before .before .loop .inv .1 ∙ serial (a .crc) (a .bytes .now) (omega arith) (λ i k. omega (arith, s i))
+    let a = c .before .before .before .before .before .args in
+    let l = c .before .before .before .loop in
+    let s = c .before .before .before .before .shared-slice-known .given in
+    c .few .ensures ∙ ap (crcBytes (l .c)) (to-the-end (a .bytes .now) (l .i)) ∙ l .inv .1 ∙
+    serial (a .crc) (a .bytes .now) (omega arith) (λ i k. omega (arith, s i))
 
 pub crc16-spec : {M : Type 1} → statement M
 crc16-spec =
@@ -35,4 +37,4 @@ crc16-spec =
     (tie.spec Inv-loop μ-loop (λ c. search needs) (λ c. search needs)
     (λ c. omega arith) (λ c. omega arith) (λ c. omega arith) (λ c. omega arith) (λ c. omega arith) (λ c. omega arith) (λ c. omega arith) (λ c. omega arith)
     (λ c. omega arith) (λ c. omega arith) (λ c. omega arith) (λ c. omega arith) (λ c. omega arith) (λ c. omega arith) (λ c. omega arith)
-    (λ c κs. search needs) (λ c. omega arith) (λ c. omega arith) loop-again (λ c κs. search needs) returns)
+    (λ c κs. search needs) (λ c. omega arith) (λ c. omega arith) loop-again (λ c. search needs) (λ c. search needs) (λ c. search needs) (λ c κs. search needs) returns)

@@ -8,10 +8,10 @@ use Rattle.wire_numbers.proofs.crc.rest.Statement.{statement}
 use Rattle.wire_numbers.proofs.crc.rest.Tie as tie
 
 abbrev Inv-loop : tie.InvT-loop
-Inv-loop crc bytes i c₀ k₀ c k = crcBytes c (drop k bytes) ≡ crcBytes crc (drop i bytes)
+Inv-loop crc bytes c₀ i₀ c i = crcBytes c (drop i bytes) ≡ crcBytes crc bytes
 
 abbrev μ-loop : tie.MeasureT-loop
-μ-loop crc bytes i c₀ k₀ c k = length bytes - k
+μ-loop crc bytes c₀ i₀ c i = length bytes - i
 
 loop-again : tie.Need-loop-again Inv-loop μ-loop
 loop-again c =
