@@ -1,0 +1,110 @@
+"""What is changed of the LLVM module that the kit hands to its clang, so that it can be compiled for another target. None of this is proved."""
+import re
+
+# The exported calls, as the kit writes them.
+EXPORTED = re.compile(r"^define (noundef(?: zeroext)?) (\S+) @(tinyboot_\w+)\((.*)\) (#\d+) \{$")
+# Not inlined, where there are such: each is called in several places, and a copy in each costs more than the calls. Another name costs size alone.
+ONCE = ("wire_numbers::crc::crc16", "wire_numbers::le::read32", "wire_frames::fields::addr", "tinyboot_c::layout::four", "device_state::refusal::fits",
+        "cmd_write::page_out")
+# The bits of a number that are set, the zeros above them and the zeros below them, by loops.
+ROUND = """
+define internal i32 @{name}(i32 %n{unused}) minsize optsize nounwind {{
+start:
+  br label %loop
+loop:
+  %left = phi i32 [ %n, %start ], [ %less, %more ]
+  %count = phi i32 [ {first}, %start ], [ %then, %more ]
+{test}
+  br i1 %done, label %end, label %more
+more:
+{next}
+  %then = add i32 %count, {by}
+  br label %loop
+end:
+  ret i32 %count
+}}
+"""
+EMPTY = "  %done = icmp eq i32 %left, 0"
+FOUND = "  %odd = and i32 %left, 1\n  %one = icmp eq i32 %odd, 1\n  %full = icmp eq i32 %count, 32\n  %done = or i1 %one, %full"
+COUNTS = {
+    "ctpop": ("bits_set", ROUND.format(name="bits_set", unused="", first=0, test=EMPTY, next="  %below = add i32 %left, -1\n  %less = and i32 %left, %below", by=1)),
+    "ctlz": ("zeros_above", ROUND.format(name="zeros_above", unused=", i1 %any", first=32, test=EMPTY, next="  %less = lshr i32 %left, 1", by=-1)),
+    "cttz": ("zeros_below", ROUND.format(name="zeros_below", unused=", i1 %any", first=0, test=FOUND, next="  %less = lshr i32 %left, 1", by=1)),
+}
+
+
+def plain(ir):
+    """Nothing of x86-64 in it."""
+    ir = re.sub(r"^target (datalayout|triple) = .*\n", "", ir, flags=re.M)
+    return re.sub(r' "(probe-stack|target-cpu|target-features)"="[^"]*"', "", ir)
+
+
+def outside(line, bits):
+    """An exported call becomes internal, and beside it stands a call of its name as the header has it: a length is a size_t, and a byte or a half word that is
+    answered is widened by who answers it, as the callers of RISC-V and of Arm take for granted."""
+    found = EXPORTED.match(line)
+    if not found:
+        return line, ""
+    _, result, name, arguments, attributes = found.groups()
+    taken, before, handed = [], [], []
+    for argument in filter(None, arguments.split(", ")):
+        kind, variable = argument.split(" noundef ")
+        if kind == "i64" and bits < 64:
+            taken.append(f"i{bits} noundef {variable}")
+            before.append(f"  {variable}.wide = zext i{bits} {variable} to i64\n")
+            handed.append(f"i64 {variable}.wide")
+        elif kind in ("i8", "i16"):
+            taken.append(f"{kind} noundef zeroext {variable}")
+            handed.append(f"{kind} {variable}")
+        else:
+            taken.append(f"{kind} noundef {'noalias ' if kind == 'ptr' else ''}{variable}")
+            handed.append(f"{kind} {variable}")
+    answer, after, shown = result, "", "%said"
+    if result == "i64" and bits < 64:
+        answer, after, shown = f"i{bits}", f"  %short = trunc i64 %said to i{bits}\n", "%short"
+    widened = "zeroext " if answer in ("i8", "i16") else ""
+    call = f"define noundef {widened}{answer} @{name}({', '.join(taken)}) {attributes} {{\n{''.join(before)}"
+    call += f"  %said = call {result} @{name}.wide({', '.join(handed)})\n{after}  ret {answer} {shown}\n}}\n"
+    return f"define internal noundef {result} @{name}.wide({arguments}) {attributes} {{", call
+
+
+def edited(ir, bits):
+    """The module for a target whose pointers have so many bits."""
+    lines, calls = [], []
+    for line in plain(ir).split("\n"):
+        line, call = outside(line, bits)
+        lines.append(line)
+        calls.append(call)
+    ir = "\n".join(lines) + "\n" + "".join(calls)
+    if bits < 64:
+        ir = re.sub(r"\balign 8\b", "align 4", ir)
+    for name in ONCE:
+        ir = re.sub(rf'^(define internal [^\n]*@"{re.escape(name)}"\(.*\)) (#\d+) \{{$', r"\1 noinline \2 {", ir, flags=re.M)
+    return ir
+
+
+def spelled(found):
+    """A product by a constant as shifts and sums: for least size the back end would call a routine for it (E5)."""
+    name, kind, factor, constant = found.groups()
+    places = [bit for bit in range(64) if int(constant) % 2 ** int(kind[1:]) >> bit & 1]
+    lines, last = [], None
+    for count, bit in enumerate(places):
+        lines.append(f"  {name}.shifted{bit} = shl {kind} {factor}, {bit}")
+        if last:
+            result = name if count + 1 == len(places) else f"{name}.sum{bit}"
+            lines.append(f"  {result} = add {kind} {last}, {name}.shifted{bit}")
+            last = result
+        else:
+            last = f"{name}.shifted{bit}"
+    return "\n".join(lines) if len(places) > 1 else f"  {name} = shl {kind} {factor}, {places[0]}"
+
+
+def counted(ir, bits):
+    """Every function for size, and on a small target no product by a constant and no bits counted but by these loops: the back end would call routines for
+    either, and count bits with a product."""
+    if bits < 64:
+        ir = re.sub(r"^  (%[\w.]+) = mul(?: nuw| nsw)* (i\d+) (%[\w.]+), (-?\d+)$", spelled, ir, flags=re.M)
+        for name, (what, body) in COUNTS.items():
+            ir = re.sub(rf"(call [^\n]*i32 )@llvm\.{name}\.i32\(", rf"\1@{what}(", ir)
+            ir += body if f"@{what}(" in ir else ""
+    return re.sub(r"^(attributes #\d+ = \{)(?!.*(?:cold|nocallback))(.*nounwind.*)\}$", r"\1 minsize optsize\2}", ir, flags=re.M)

@@ -1,0 +1,8 @@
+/* The kit's clang has no headers of its own: what tinyboot.h asks for. */
+#ifndef CHIPS_STDINT_H
+#define CHIPS_STDINT_H
+typedef __UINT8_TYPE__ uint8_t;
+typedef __UINT16_TYPE__ uint16_t;
+typedef __UINT32_TYPE__ uint32_t;
+typedef __UINT64_TYPE__ uint64_t;
+#endif
