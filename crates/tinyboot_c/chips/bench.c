@@ -1,6 +1,8 @@
 /* The language of docs/BENCH.md on the C interface, for a target without a C library: what `bench` does with the library's own calls is done with those of
  * tinyboot.h and tinyboot_desk.h. The bench's own work stays the bench's: `f`, `r`, `q`, `p` and `j` change its buffers, and C has no calls for that.
  *
+ * `tinyboot_position` and `tinyboot_key`, which no letter asks for, are tried beside: the one with each `d`, the other once.
+ *
  * PIECE=k hands `x` and `h` lines in by k bytes. Calls that only take bytes are then told as one with the call that ends a frame, so that the same is printed
  * as with PIECE=0, all bytes at once. ONE: the calls of tinyboot_one.h where a module has that device's numbers and lengths, and those of tinyboot.h elsewhere.
  *
@@ -111,8 +113,10 @@ static _Alignas(16) uint8_t stacks[4][DEEP];
 enum { ON_FEED, ON_START, ON_APP, ON_OTHERS };
 static const char *const stack_names[4] = {"feed", "start", "app_feed", "others"};
 
+/* What a call says is kept in 32 bits: one that leaves its result's upper bits as they were is then noticed. */
 static struct {
-    uint8_t said, mode, byte;
+    uint32_t said;
+    uint8_t mode, byte;
     const uint8_t *bytes;
     size_t len, list_len;
     uint8_t *list;
@@ -190,6 +194,8 @@ static void do_start(void)
 }
 
 static void do_crc(void) { now.number = tinyboot_crc16(0xFFFF, now.bytes, now.len); }
+static void do_position(void) { now.number = tinyboot_position(meta, meta_len); }
+static void do_key(void) { now.number = tinyboot_key((const uint8_t *)"foobar", 6); }
 static void do_early(void) { now.said = tinyboot_early(now.mode, setup, sizeof setup, meta, meta_len); }
 static void do_mend(void) { now.said = tinyboot_mend(setup, sizeof setup, meta, meta_len, now.list, now.list_len); }
 static void do_confirm(void) { now.said = tinyboot_confirm(meta, meta_len); }
@@ -279,7 +285,8 @@ static void feed(const uint8_t *bytes, size_t n, int asks)
             told(quiet);
             quiet = 0;
             if (asks && now.said < TINYBOOT_REFUSED && tinyboot_answer_length(answer)) {
-                uint8_t said = now.said, reply[TINYBOOT_REPLY_SIZE];
+                uint32_t said = now.said;
+                uint8_t reply[TINYBOOT_REPLY_SIZE];
                 size_t length = tinyboot_answer_length(answer);
                 for (size_t i = 0; i < length; i++) reply[i] = room[i];
                 hear(reply, length);
@@ -473,6 +480,7 @@ static void summed(const char *name, const uint8_t *s, size_t n)
     now.bytes = s;
     now.len = n;
     on(ON_OTHERS, do_crc);
+    if (now.number > 0xFFFF) wrong("A CRC OF MORE THAN 16 BITS");
     crc[0] = (uint8_t)(now.number >> 8);
     crc[1] = (uint8_t)now.number;
     text(name);
@@ -487,6 +495,8 @@ static void dump(void)
     uint32_t run = runs ? 0xFFFFFFFF : four(state + 128);
     summed("flash", flash, flash_len);
     listed("record", meta, meta_len);
+    on(ON_OTHERS, do_position);
+    if (now.number != (meta_len == TINYBOOT_META_SIZE ? meta[TINYBOOT_META_AT_POSITION] : 256u + TINYBOOT_BAD_RECORD)) wrong("ANOTHER POSITION");
     text("state");
     next(begun);
     next(runs ? 0 : fill);
@@ -749,6 +759,8 @@ void begin(void)
     static const struct tinyboot_setup first = {.erase_size = 64, .capacity = 16384, .key = TINYBOOT_NO_KEY};
     for (size_t i = 0; i < sizeof stacks; i++) stacks[0][i] = PAINT;
     if (tinyboot_state_size() != TINYBOOT_STATE_SIZE) wrong("ANOTHER STATE");
+    on(ON_OTHERS, do_key);
+    if (now.number != 0xBF9CF968) wrong("ANOTHER KEY"); /* FNV-1a's published value */
     tinyboot_lay_setup(setup, &first);
     new_bench();
     fresh();

@@ -3,9 +3,13 @@ import re
 
 # The exported calls, as the kit writes them.
 EXPORTED = re.compile(r"^define (noundef(?: zeroext)?) (\S+) @(tinyboot_\w+)\((.*)\) (#\d+) \{$")
-# Not inlined, where there are such: each is called in several places, and a copy in each costs more than the calls. Another name costs size alone.
-ONCE = ("wire_numbers::crc::crc16", "wire_numbers::le::read32", "wire_frames::fields::addr", "tinyboot_c::layout::four", "device_state::refusal::fits",
-        "cmd_write::page_out")
+# Not inlined, where there are such: each is called in several places, and a copy in each costs more than the calls. Another name costs size alone. One
+# device's list is shorter: its constants have to reach the tests of them.
+APART = ("wire_numbers::crc::crc16", "wire_numbers::le::read32", "wire_frames::fields::addr", "tinyboot_c::layout::four", "device_state::refusal::fits",
+         "cmd_write::page_out", "tinyboot_c::layout::id_from")
+ONE_APART = ("wire_numbers::crc::crc16", "wire_frames::fields::addr", "device_in_place::taken_out")
+# One device does without the shorter way for a single byte: it answers whether it has taken the byte, and where it has not the byte goes the long way.
+SHORTCUT = "tinyboot_c::feeding::fed_byte"
 # The bits of a number that are set, the zeros above them and the zeros below them, by loops.
 ROUND = """
 define internal i32 @{name}(i32 %n{unused}) minsize optsize nounwind {{
@@ -53,11 +57,8 @@ def outside(line, bits):
             taken.append(f"i{bits} noundef {variable}")
             before.append(f"  {variable}.wide = zext i{bits} {variable} to i64\n")
             handed.append(f"i64 {variable}.wide")
-        elif kind in ("i8", "i16"):
-            taken.append(f"{kind} noundef zeroext {variable}")
-            handed.append(f"{kind} {variable}")
         else:
-            taken.append(f"{kind} noundef {'noalias ' if kind == 'ptr' else ''}{variable}")
+            taken.append(argument)
             handed.append(f"{kind} {variable}")
     answer, after, shown = result, "", "%said"
     if result == "i64" and bits < 64:
@@ -68,8 +69,8 @@ def outside(line, bits):
     return f"define internal noundef {result} @{name}.wide({arguments}) {attributes} {{", call
 
 
-def edited(ir, bits):
-    """The module for a target whose pointers have so many bits."""
+def edited(ir, bits, one):
+    """The module for a target whose pointers have so many bits; for one device, or for any setup."""
     lines, calls = [], []
     for line in plain(ir).split("\n"):
         line, call = outside(line, bits)
@@ -78,9 +79,16 @@ def edited(ir, bits):
     ir = "\n".join(lines) + "\n" + "".join(calls)
     if bits < 64:
         ir = re.sub(r"\balign 8\b", "align 4", ir)
-    for name in ONCE:
+    if one:
+        ir = re.sub(rf'^(define internal [^\n]* i1 @"{re.escape(SHORTCUT)}"\([^\n]*\{{\n).*?^}}$', r"\1  ret i1 false\n}", ir, flags=re.M | re.S)
+    for name in ONE_APART if one else APART:
         ir = re.sub(rf'^(define internal [^\n]*@"{re.escape(name)}"\(.*\)) (#\d+) \{{$', r"\1 noinline \2 {", ir, flags=re.M)
     return ir
+
+
+def narrowed(ir):
+    """Every number of 64 bits with 32: another program, which nothing proves, and whose size tells what the width costs."""
+    return re.sub(r"= (?:zext|trunc)(?: nuw| nsw| nneg)* i32 (\S+) to i32", r"= or i32 \1, 0", re.sub(r"\bi64\b", "i32", ir))
 
 
 def spelled(found):

@@ -23,23 +23,46 @@ def sized(path):
     """Bytes of code, of constants and of variables."""
     _, _, raw, text, names = sections(path)
     sums = dict(text=0, rodata=0, data=0)
-    for name, kind, flags, _, _, size, _ in raw:
+    for name, _, flags, _, _, size, _ in raw:
         if not flags & 2 or text(names, name).startswith((".ARM.ex", ".eh_frame")):
             continue
         sums["text" if flags & 4 else "data" if flags & 1 else "rodata"] += size
     return sums
 
 
-def wanted(path):
-    """The names that are not defined."""
+def symbols(path):
+    """Each symbol's name, whether it is global, and whether it is defined."""
     data, wide, raw, text, _ = sections(path)
-    found = []
     for _, kind, _, _, at, size, link in raw:
         for i in range(at, at + size, 24 if wide else 16) if kind == 2 else ():
-            name, where = struct.unpack_from("<I", data, i)[0], struct.unpack_from("<H", data, i + (6 if wide else 14))[0]
-            if name and where == 0:
-                found.append(text(link, name))
-    return sorted(found)
+            name, = struct.unpack_from("<I", data, i)
+            where, = struct.unpack_from("<H", data, i + (6 if wide else 14))
+            if name:
+                yield text(link, name), data[i + (4 if wide else 12)] >> 4 == 1, where != 0
+
+
+def wanted(path):
+    """The names that are not defined."""
+    return sorted(name for name, _, defined in symbols(path) if not defined)
+
+
+def exported(path):
+    return [name for name, outside, defined in symbols(path) if outside and defined]
+
+
+def multiplies(path):
+    """Of a RISC-V object: how many instructions it has, and how many of them multiply (opcode OP, funct7 1, funct3 below 4)."""
+    data, _, raw, _, _ = sections(path)
+    seen = products = 0
+    for _, _, flags, _, at, size, _ in raw:
+        end = at + size if flags & 4 else at
+        while at < end:
+            short = data[at] & 3 != 3
+            word = 0 if short else struct.unpack_from("<I", data, at)[0]
+            products += word & 0x7F == 0x33 and word >> 25 == 1 and word >> 12 & 7 < 4
+            seen += 1
+            at += 2 if short else 4
+    return seen, products
 
 
 def linked(tools, path, roots):
@@ -61,15 +84,3 @@ def told(tools, path):
             kept = sized(linked(tools, path, [feed, start]))
             line += f"; {feed} and {start} alone {kept['text']} and {kept['rodata']}"
     return line + "; wants " + (", ".join(wanted(path)) or "nothing")
-
-
-def exported(path):
-    data, wide, raw, text, _ = sections(path)
-    found = []
-    for _, kind, _, _, at, size, link in raw:
-        for i in range(at, at + size, 24 if wide else 16) if kind == 2 else ():
-            name, where = struct.unpack_from("<I", data, i)[0], struct.unpack_from("<H", data, i + (6 if wide else 14))[0]
-            info = data[i + (4 if wide else 12)]
-            if where and info >> 4 == 1:
-                found.append(text(link, name))
-    return found

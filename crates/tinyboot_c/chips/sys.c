@@ -134,14 +134,6 @@ uint32_t __udivsi3(uint32_t n, uint32_t by)
     left32(n, by, &quotient);
     return quotient;
 }
-
-/* How many bits above the highest that is set. */
-int __clzsi2(uint32_t n)
-{
-    int bits = 32;
-    for (; n; n >>= 1) bits--;
-    return bits;
-}
 #endif
 
 #ifdef __arm__

@@ -1,4 +1,5 @@
-/* The device side of tinyboot as a static library: libtinyboot_c.a, which `rt staticlib tinyboot_c` writes for x86-64, and ../archive for other machines.
+/* The device side of tinyboot as a static library: libtinyboot_c.a, which `rt staticlib tinyboot_c` writes for x86-64, ../archive for other machines, and
+ * ../chip for small controllers (rv32ec, rv32imac, thumbv6m, thumbv7em).
  *
  * docs/C.md is the page to read first; docs/WIRE.md has the frames, the statuses, what an image is and a whole update; ../example/loop.c is a module in C.
  *
@@ -12,6 +13,11 @@
  *     length 0;
  *   - no buffer that a call writes overlaps another buffer of the same call.
  * The functions marked `static inline` are C and not proved; they only lay and read bytes at the places below.
+ *
+ * What is proved are the functions, not each way to an object. ../archive (but on x86-64) and ../chip compile the kit's LLVM module again, ../chip after edits
+ * of it, and neither that nor the edits are proved: ../chip-run runs what comes out under an emulator, which shows no alignment trap and not RV32E's smaller
+ * register file (docs/C.md, On a controller). On a controller the flash is an array in memory too, no chip's flash registers are driven, and on rv32ec and
+ * thumbv6m the library also wants the compiler's own routine for a remainder.
  *
  * What the caller owes besides:
  *   - at power-on tinyboot_start comes first: it decides whether the app is run, and gives the first state. tinyboot_new_state decides nothing, and nothing
