@@ -7,7 +7,7 @@ EXPORTED = re.compile(r"^define (noundef(?: zeroext)?) (\S+) @(tinyboot_\w+)\((.
 # device's list is shorter: its constants have to reach the tests of them.
 APART = ("wire_numbers::crc::crc16", "wire_numbers::le::read32", "wire_frames::fields::addr", "tinyboot_c::layout::four", "device_state::refusal::fits",
          "cmd_write::page_out", "tinyboot_c::layout::id_from")
-ONE_APART = ("wire_numbers::crc::crc16", "wire_frames::fields::addr", "device_in_place::taken_out")
+ONE_APART = ("wire_numbers::crc::crc16", "wire_frames::fields::addr")
 # One device does without the shorter way for a single byte: it answers whether it has taken the byte, and where it has not the byte goes the long way.
 SHORTCUT = "tinyboot_c::feeding::fed_byte"
 # The bits of a number that are set, the zeros above them and the zeros below them, by loops.

@@ -13,7 +13,7 @@ uint8_t tinyboot_one_start(uint8_t mode, const uint8_t *restrict id, uint8_t *re
                            uint8_t *restrict answer)
 {
     uint8_t setup[TINYBOOT_SETUP_SIZE] = SETUP;
-    __builtin_memcpy(setup + 9, id, ONE_ID_LEN);
+    __builtin_memcpy(setup + 9, id, ONE_ID_LEN ? TINYBOOT_ID_SIZE : 0);
     return tinyboot_start(mode, setup, sizeof setup, state, TINYBOOT_STATE_SIZE, flash, ONE_CAPACITY, meta, TINYBOOT_META_SIZE, answer, TINYBOOT_ANSWER_SIZE);
 }
 
@@ -21,7 +21,7 @@ uint8_t tinyboot_one_feed(const uint8_t *restrict id, uint8_t *restrict state, c
                           uint8_t *restrict meta, uint8_t *restrict reply, uint8_t *restrict answer)
 {
     uint8_t setup[TINYBOOT_SETUP_SIZE] = SETUP;
-    __builtin_memcpy(setup + 9, id, ONE_ID_LEN);
+    __builtin_memcpy(setup + 9, id, ONE_ID_LEN ? TINYBOOT_ID_SIZE : 0);
     return tinyboot_feed(setup, sizeof setup, state, TINYBOOT_STATE_SIZE, bytes, bytes_len, flash, ONE_CAPACITY, meta, TINYBOOT_META_SIZE, reply,
                          TINYBOOT_REPLY_SIZE, answer, TINYBOOT_ANSWER_SIZE);
 }

@@ -11,7 +11,7 @@
 extern "C" {
 #endif
 
-/* tinyboot_start. `id` has as many bytes as the setup's id length says; with 0 it is not read. */
+/* tinyboot_start. `id` has TINYBOOT_ID_SIZE bytes, of which as many count as the setup's id length says; where that is 0 none is read. */
 uint8_t tinyboot_one_start(uint8_t mode, const uint8_t *id, uint8_t *state, const uint8_t *flash, uint8_t *meta, uint8_t *answer);
 
 /* tinyboot_feed. */
