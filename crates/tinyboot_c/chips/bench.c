@@ -6,8 +6,8 @@
  * PIECE=k hands `x` and `h` lines in by k bytes. Calls that only take bytes are then told as one with the call that ends a frame, so that the same is printed
  * as with PIECE=0, all bytes at once. ONE: the calls of tinyboot_one.h where a module has that device's numbers and lengths, and those of tinyboot.h elsewhere.
  *
- * Each call runs on a stack of its own that was painted before; at the end standard error has how deep each went. A line that cannot be obeyed is `? N`, without
- * the words behind it. */
+ * Each call runs on a stack of its own that was painted before; at the end standard error has how deep each went. A line that cannot be obeyed is `? N`,
+ * without the words behind it. */
 #include "sys.h"
 #include "tinyboot.h"
 #include "tinyboot_desk.h"

@@ -28,10 +28,11 @@ end:
   ret i32 %count
 }}
 """
+LOWEST = "  %below = add i32 %left, -1\n  %less = and i32 %left, %below"
 EMPTY = "  %done = icmp eq i32 %left, 0"
 FOUND = "  %odd = and i32 %left, 1\n  %one = icmp eq i32 %odd, 1\n  %full = icmp eq i32 %count, 32\n  %done = or i1 %one, %full"
 COUNTS = {
-    "ctpop": ("bits_set", ROUND.format(name="bits_set", unused="", first=0, test=EMPTY, next="  %below = add i32 %left, -1\n  %less = and i32 %left, %below", by=1)),
+    "ctpop": ("bits_set", ROUND.format(name="bits_set", unused="", first=0, test=EMPTY, next=LOWEST, by=1)),
     "ctlz": ("zeros_above", ROUND.format(name="zeros_above", unused=", i1 %any", first=32, test=EMPTY, next="  %less = lshr i32 %left, 1", by=-1)),
     "cttz": ("zeros_below", ROUND.format(name="zeros_below", unused=", i1 %any", first=0, test=FOUND, next="  %less = lshr i32 %left, 1", by=1)),
 }

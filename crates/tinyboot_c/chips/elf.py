@@ -69,8 +69,8 @@ def linked(tools, path, roots):
     """A program of what the roots keep, and no more: others' names are left open."""
     out = path + ".kept"
     keep = [word for root in roots for word in ("-u", root)]
-    subprocess.run([os.path.join(tools, "ld.lld"), "--gc-sections", "--unresolved-symbols=ignore-all", "-z", "norelro", "-z", "noexecstack", "-e", roots[0], *keep,
-                    path, "-o", out], check=True, capture_output=True)
+    words = ["--gc-sections", "--unresolved-symbols=ignore-all", "-z", "norelro", "-z", "noexecstack", "-e", roots[0], *keep, path, "-o", out]
+    subprocess.run([os.path.join(tools, "ld.lld"), *words], check=True, capture_output=True)
     return out
 
 

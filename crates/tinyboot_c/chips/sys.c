@@ -10,8 +10,8 @@ long sys_three(long a, long b, long c, long number);
 /* the number goes into a7, which rv32e has no name for (the word is `addi x17, x13, 0`), and for rv32e into t0 */
 __asm__(".text\n.globl _start\n_start:\n call begin\n"
         ".globl sys_three\nsys_three:\n mv t0, a3\n .word 0x00068893\n ecall\n ret\n"
-        ".globl on_stack\non_stack:\n addi sp, sp, -16\n sw ra, 12(sp)\n sw s0, 8(sp)\n mv s0, sp\n mv sp, a1\n jalr a0\n mv sp, s0\n lw s0, 8(sp)\n lw ra, 12(sp)\n"
-        " addi sp, sp, 16\n ret\n");
+        ".globl on_stack\non_stack:\n addi sp, sp, -16\n sw ra, 12(sp)\n sw s0, 8(sp)\n mv s0, sp\n mv sp, a1\n jalr a0\n mv sp, s0\n"
+        " lw s0, 8(sp)\n lw ra, 12(sp)\n addi sp, sp, 16\n ret\n");
 #elif defined(__arm__)
 #define READ 3
 #define WRITE 4
@@ -151,8 +151,9 @@ void __aeabi_memclr4(void *to, size_t n) { memset(to, 0, n); }
 void __aeabi_memclr8(void *to, size_t n) { memset(to, 0, n); }
 uint32_t __aeabi_uidiv(uint32_t n, uint32_t by) { return __udivsi3(n, by); }
 /* the quotient in r0 (r0 and r1), what is left in r1 (r2 and r3) */
-__asm__(".text\n.thumb\n.syntax unified\n.globl __aeabi_uldivmod\n.type __aeabi_uldivmod,%function\n.thumb_func\n__aeabi_uldivmod:\n push {r4, lr}\n sub sp, #16\n"
-        " add r4, sp, #8\n str r4, [sp]\n bl left64\n mov r2, r0\n mov r3, r1\n ldr r0, [sp, #8]\n ldr r1, [sp, #12]\n add sp, #16\n pop {r4, pc}\n"
-        ".globl __aeabi_uidivmod\n.type __aeabi_uidivmod,%function\n.thumb_func\n__aeabi_uidivmod:\n push {r4, lr}\n sub sp, #8\n mov r2, sp\n bl left32\n mov r1, r0\n"
-        " ldr r0, [sp]\n add sp, #8\n pop {r4, pc}\n");
+__asm__(".text\n.thumb\n.syntax unified\n"
+        ".globl __aeabi_uldivmod\n.type __aeabi_uldivmod,%function\n.thumb_func\n__aeabi_uldivmod:\n push {r4, lr}\n sub sp, #16\n add r4, sp, #8\n"
+        " str r4, [sp]\n bl left64\n mov r2, r0\n mov r3, r1\n ldr r0, [sp, #8]\n ldr r1, [sp, #12]\n add sp, #16\n pop {r4, pc}\n"
+        ".globl __aeabi_uidivmod\n.type __aeabi_uidivmod,%function\n.thumb_func\n__aeabi_uidivmod:\n push {r4, lr}\n sub sp, #8\n mov r2, sp\n"
+        " bl left32\n mov r1, r0\n ldr r0, [sp]\n add sp, #8\n pop {r4, pc}\n");
 #endif
