@@ -1,5 +1,6 @@
-/* The desk's side of tinyboot as a static library: libc_desk.a, which `rt staticlib c_desk` writes for x86-64. It needs nothing of libtinyboot_c.a, the module's
- * side, and can be linked beside it; its numbers are those of tinyboot.h, which this header includes (crates/tinyboot_c/include).
+/* The desk's side of tinyboot as a static library: libc_desk.a, which `rt staticlib c_desk` writes for x86-64, and `crates/tinyboot_c/chip --desk` for small
+ * controllers, by a way that is not proved (docs/C.md, On a controller). It needs nothing of libtinyboot_c.a, the module's side, and can be linked beside it;
+ * its numbers are those of tinyboot.h, which this header includes (crates/tinyboot_c/include).
  *
  * docs/C.md, The desk, is the page to read first; ../example/desk.c has a desk and a module in one process.
  *
