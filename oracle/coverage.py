@@ -1,5 +1,5 @@
 """What a script reaches, counted on the device of model.py: answers, replies, reasons for silence, both sides of every limit, states of the record, refusals,
-lines. A limit's side is counted where that limit alone decides. `wanted` has every point that the stored run of `bench` must reach (make-replay)."""
+lines. A limit's side is counted where that limit alone decides. `wanted` has every point that the stored run of `bench` must reach (make-bench)."""
 from collections import Counter
 
 import model
