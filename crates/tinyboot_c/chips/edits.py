@@ -10,6 +10,10 @@ APART = ("wire_numbers::crc::crc16", "wire_numbers::le::read32", "wire_frames::f
 ONE_APART = ("wire_numbers::crc::crc16", "wire_frames::fields::addr")
 # One device does without the shorter way for a single byte: it answers whether it has taken the byte, and where it has not the byte goes the long way.
 SHORTCUT = "tinyboot_c::feeding::fed_byte"
+# On a small target the CRC goes byte by byte: `crc16` hands the whole message to the function that takes its last bytes, as `crc16_by_byte` does in the source,
+# under the same contract. Words of 64 bits would cost more there than they save.
+CRC = "wire_numbers::crc::crc16"
+BY_BYTE = "wire_numbers::crc::rest"
 # The bits of a number that are set, the zeros above them and the zeros below them, by loops.
 ROUND = """
 define internal i32 @{name}(i32 %n{unused}) minsize optsize nounwind {{
@@ -70,6 +74,15 @@ def outside(line, bits):
     return f"define internal noundef {result} @{name}.wide({arguments}) {attributes} {{", call
 
 
+def bytewise(ir):
+    """The CRC a byte at a time."""
+    taken = "(i16 noundef %a0, ptr noundef %a1)"
+    if f'@"{BY_BYTE}"{taken}' not in ir:
+        return ir
+    body = f'  %said = call i16 @"{BY_BYTE}"(i16 %a0, ptr %a1)\n  ret i16 %said\n}}'
+    return re.sub(rf'^(define internal noundef i16 @"{CRC}"{re.escape(taken)} [^\n]*\{{\n).*?^}}$', lambda found: found.group(1) + body, ir, flags=re.M | re.S)
+
+
 def edited(ir, bits, one):
     """The module for a target whose pointers have so many bits; for one device, or for any setup."""
     lines, calls = [], []
@@ -79,7 +92,7 @@ def edited(ir, bits, one):
         calls.append(call)
     ir = "\n".join(lines) + "\n" + "".join(calls)
     if bits < 64:
-        ir = re.sub(r"\balign 8\b", "align 4", ir)
+        ir = bytewise(re.sub(r"\balign 8\b", "align 4", ir))
     if one:
         ir = re.sub(rf'^(define internal [^\n]* i1 @"{re.escape(SHORTCUT)}"\([^\n]*\{{\n).*?^}}$', r"\1  ret i1 false\n}", ir, flags=re.M | re.S)
     for name in ONE_APART if one else APART:
