@@ -6,8 +6,8 @@ EXPORTED = re.compile(r"^define (noundef(?: zeroext)?) (\S+) @(tinyboot_\w+)\((.
 # Not inlined, where there are such: each is called in several places, and a copy in each costs more than the calls. Another name costs size alone. One
 # device's list is shorter: its constants have to reach the tests of them.
 APART = ("wire_numbers::crc::crc16", "wire_numbers::le::read32", "wire_frames::fields::addr", "tinyboot_c::layout::four", "device_state::refusal::fits",
-         "cmd_write::page_out", "tinyboot_c::layout::id_from")
-ONE_APART = ("wire_numbers::crc::crc16", "wire_frames::fields::addr")
+         "device_state::refusal::run_fits", "cmd_write::page_out", "tinyboot_c::layout::id_from", "wire_frames::frame::well", "device_feed::kind_of")
+ONE_APART = ("wire_numbers::crc::crc16", "wire_frames::fields::addr", "device_feed::is_going", "cmd_write::room")
 # One device does without the shorter way for a single byte: it answers whether it has taken the byte, and where it has not the byte goes the long way.
 SHORTCUT = "tinyboot_c::feeding::fed_byte"
 # On a small target the CRC goes byte by byte: `crc16` hands the whole message to the function that takes its last bytes, as `crc16_by_byte` does in the source,
@@ -121,12 +121,13 @@ def spelled(found):
     return "\n".join(lines) if len(places) > 1 else f"  {name} = shl {kind} {factor}, {places[0]}"
 
 
-def counted(ir, bits):
-    """Every function for size, and on a small target no product by a constant and no bits counted but by these loops: the back end would call routines for
-    either, and count bits with a product."""
+def counted(ir, bits, tables):
+    """Every function for size, with tables of jumps or without, and on a small target no product by a constant and no bits counted but by these loops: the
+    back end would call routines for either, and count bits with a product."""
     if bits < 64:
         ir = re.sub(r"^  (%[\w.]+) = mul(?: nuw| nsw)* (i\d+) (%[\w.]+), (-?\d+)$", spelled, ir, flags=re.M)
         for name, (what, body) in COUNTS.items():
             ir = re.sub(rf"(call [^\n]*i32 )@llvm\.{name}\.i32\(", rf"\1@{what}(", ir)
             ir += body if f"@{what}(" in ir else ""
-    return re.sub(r"^(attributes #\d+ = \{)(?!.*(?:cold|nocallback))(.*nounwind.*)\}$", r"\1 minsize optsize\2}", ir, flags=re.M)
+    words = "minsize optsize" if tables else 'minsize optsize "no-jump-tables"="true"'
+    return re.sub(r"^(attributes #\d+ = \{)(?!.*(?:cold|nocallback))(.*nounwind.*)\}$", rf"\1 {words}\2}}", ir, flags=re.M)
