@@ -34,9 +34,9 @@ use Rattle.theorem_streams.proofs.Calls.{call-is}
 use Rattle.theorem_app.specs.Stream.{rulesOf}
 use Rattle.theorem_app.specs.Demand.{Good}
 use Rattle.theorem_app.proofs.Owing.{owing, call-same}
-use Rattle.desk_replies.specs.Replies.{plain, Told, nothing, hearOf}
-use Rattle.theorem_desk.specs.Desk.{Waiting, Heard}
-use Rattle.theorem_desk.specs.AppReplies.{infoMeant, contentsMeant, repliedBy, meantAt, meantOf, readIn, meantSaid, meantIn, Wide, repliedWith}
+use Rattle.desk_replies.specs.Replies.{plain, Told, nothing}
+use Rattle.theorem_desk.specs.Desk.{Hears}
+use Rattle.theorem_desk.specs.AppReplies.{infoMeant, contentsMeant, repliedBy, meantAt, meantOf, readIn, meantSaid, meantIn, Wide}
 use Rattle.theorem_desk.specs.AppReplies.{AppRepliesHeard, ResetsSilent}
 use Rattle.theorem_desk.proofs.Fine.{Fine, fine-heard, fine-bare, fine-info, fine-chosen}
 use Rattle.theorem_desk.proofs.Turns.{Error, every-turn}
@@ -44,8 +44,7 @@ use Rattle.theorem_desk.proofs.Heard.{numbers-of}
 
 -- whatever waits hears this of a frame's end
 abbrev Claim : ℕ → Told → Ending → Type 0
-Claim cap t e =
-    (b : List ℕ) (g : ℕ) → Waiting cap b g → (rest : List ℕ) → Heard t (e .told .len) (hearOf cap b g (take (e .told .len) (e .room) ++ rest))
+Claim cap t e = Hears cap t (e .told .len) (e .room)
 
 module _ (cap : ℕ) (enough : 18 ≤ cap) (small : cap < 256 ^ 2) (s : AppSetup) (w : AppWorld) (wide : Wide s) (capacity : s .capacity ≤ 65536)
     (erase : s .«erase_size» ≤ 32768) (named : s .«id_len» ≤ 16) (whole : length (w .state .frame) ≡ 12 + cap)
@@ -169,12 +168,12 @@ module _ (cap page : ℕ) (enough : 18 ≤ cap) (s : AppSetup) (w : AppWorld) (y
 
 module _ (cap page : ℕ) (enough : 18 ≤ cap) (small : cap < 256 ^ 2) where
   pub app-replies-heard : AppRepliesHeard cap page
-  app-replies-heard s w l room y wide r loud c f g i rest = go (readFrame cap true (p cap page enough s w y l room r ++ l)) refl
+  app-replies-heard s w l room y wide r loud c = go (readFrame cap true (p cap page enough s w y l room r ++ l)) refl
     where
-      Hears : Told → Called → Type 0
-      Hears m z = Heard m (z .told .len) (hearOf cap f g (repliedWith z rest))
+      Means : Told → Called → Type 0
+      Means m z = Hears cap m (z .told .len) (z .room)
 
-      go : (u : Outcome) → readFrame cap true (p cap page enough s w y l room r ++ l) ≡ u → Hears (meantIn cap s w l) (appFedOf cap page s w l room)
+      go : (u : Outcome) → readFrame cap true (p cap page enough s w y l room r ++ l) ≡ u → Means (meantIn cap s w l) (appFedOf cap page s w l room)
       go (Begun q) e = absurd (quiet (subst (λ (z : Called). z .told .number ≡ 2) (calls cap page enough s w y l room r (Begun q) e) loud))
         where
           quiet : _≡_ {A = ℕ} 0 2 → ⊥
@@ -191,8 +190,8 @@ module _ (cap page : ℕ) (enough : 18 ≤ cap) (small : cap < 256 ^ 2) where
           let M : meantIn cap s w l ≡ meantOf cap s k v = ap (λ (z : Read). meantSaid (z .said) cap s (holding z w)) A in
           let h =
           act-heard cap enough small s v wide (n .1) (n .2) (n .0) (b .0) (b .1) (subst (λ (z : Read). cmdOf (z .bytes) ≤ 5) A c) room r k
-          (subst (λ (z : Called). z .told .number ≡ 2) F loud) f g i rest in
-          subst (λ (m : Told). Hears m (appFedOf cap page s w l room)) (sym M) (subst (Hears (meantOf cap s k v)) (sym F) h)
+          (subst (λ (z : Called). z .told .number ≡ 2) F loud) in
+          subst (λ (m : Told). Means m (appFedOf cap page s w l room)) (sym M) (subst (Means (meantOf cap s k v)) (sym F) h)
 
   pub resets-silent : ResetsSilent cap page
   resets-silent s w l room y r loud = go (readFrame cap true (p cap page enough s w y l room r ++ l)) refl

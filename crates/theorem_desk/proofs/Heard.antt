@@ -25,9 +25,8 @@ use Rattle.device_feed.specs.Feed.{Called, holding, endedBy, afterRead, takenOf
 use Rattle.theorem_streams.proofs.Stored.{ended-kept}
 use Rattle.theorem_demands.specs.Demand.{Good}
 use Rattle.desk_replies.specs.Replies as desk
-use Rattle.desk_replies.specs.Replies.{hearOf}
 use Rattle.theorem_desk.specs.Meant.{meantAt, meantOf, readIn, meantSaid, meantIn}
-use Rattle.theorem_desk.specs.Desk.{Wide, Heard, repliedWith, RepliesHeard}
+use Rattle.theorem_desk.specs.Desk.{Wide, Hears, RepliesHeard}
 use Rattle.theorem_desk.proofs.Turns.{Error, every-turn}
 use Rattle.theorem_desk.proofs.Replies.{Claim, Fine, fine-heard, fine-handled, fine-error, fine-chosen}
 
@@ -120,14 +119,15 @@ module _ (cap page : ℕ) (s : Setup) (w : World) (y : Good cap page s w) (l roo
 module _ (cap page : ℕ) (enough : 18 ≤ cap) (small : cap < 256 ^ 2) where
   pub replies-heard : RepliesHeard cap page
   unfolding afterRead
-  replies-heard s w l room y wide r loud c f g i rest = go (readFrame cap true (p cap page s w y l room r ++ l)) refl
+  replies-heard s w l room y wide r loud c = go (readFrame cap true (p cap page s w y l room r ++ l)) refl
     where
-      go : (u : Outcome) → readFrame cap true (p cap page s w y l room r ++ l) ≡ u →
-          Heard (meantIn cap page s w l) (fedOf cap page s w l room .told .len) (hearOf cap f g (repliedWith (fedOf cap page s w l room) rest))
+      Means : desk.Told → Called → Type 0
+      Means m z = Hears cap m (z .told .len) (z .room)
+
+      go : (u : Outcome) → readFrame cap true (p cap page s w y l room r ++ l) ≡ u → Means (meantIn cap page s w l) (fedOf cap page s w l room)
       go (Begun q) e = silence (subst (λ (x : Called). Loud (x .told .number)) (calls cap page s w y l room r (Begun q) e) loud)
         where
-          silence : Loud 0 →
-              Heard (meantIn cap page s w l) (fedOf cap page s w l room .told .len) (hearOf cap f g (repliedWith (fedOf cap page s w l room) rest))
+          silence : Loud 0 → Means (meantIn cap page s w l) (fedOf cap page s w l room)
           silence (inl x) = absurd (omega arith)
           silence (inr x) = absurd (omega arith)
       go (Ended k q t) e =
@@ -143,6 +143,5 @@ module _ (cap page : ℕ) (enough : 18 ≤ cap) (small : cap < 256 ^ 2) where
           let o : Wide s v = record { version = wide .version; key = wide .key; id = wide .id; flash = wide .flash } in
           let h =
           dispatch-heard cap page enough small s v o (n .1) (n .2) (b .0) (b .1) (subst (λ (z : Read). cmdOf (z .bytes) ≤ 5) R c) (n .0) room r k
-          (subst (λ (z : Called). Loud (z .told .number)) F loud) f g i rest in
-          subst (λ (m : desk.Told). Heard m (fedOf cap page s w l room .told .len) (hearOf cap f g (repliedWith (fedOf cap page s w l room) rest))) (sym M)
-          (subst (λ (z : Called). Heard (meantOf cap page s k v) (z .told .len) (hearOf cap f g (repliedWith z rest))) (sym F) h)
+          (subst (λ (z : Called). Loud (z .told .number)) F loud) in
+          subst (λ (m : desk.Told). Means m (fedOf cap page s w l room)) (sym M) (subst (Means (meantOf cap page s k v)) (sym F) h)

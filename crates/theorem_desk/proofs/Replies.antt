@@ -1,7 +1,7 @@
 -- Each reply of the bootloader is heard as what it means.
 use Prim.Native.Nat.{ℕ, _+_, _-_, _/_, _%_, _^_, _≤_, _<_}
 use mathlib.Core.Path.{_≡_, refl, ap, _∙_}
-use mathlib.Core.List.{List, [], _∷_, _++_}
+use mathlib.Core.List.{List, [], _∷_}
 use mathlib.Core.Bool.{Bool, true, false, not, _&&_, _||_}
 use native.Mathlib.Omega.{arith}
 use borrow.Author.Tests.{eqb-true, eqb-false, ne-eqb}
@@ -29,16 +29,15 @@ use Rattle.device_handler.specs.Handling.{Obeyed, bare, loaded, afterInfo, afte
 use Rattle.cmd_select.specs.Select.{copied}
 use Rattle.device_dispatcher.specs.Dispatch.{Ending, answeredOf, idOf, turning}
 use Rattle.desk_replies.specs.Replies as desk
-use Rattle.desk_replies.specs.Replies.{info, verify, select, plain, hearOf}
+use Rattle.desk_replies.specs.Replies.{info, verify, select, plain}
 use Rattle.theorem_desk.specs.Meant.{infoMeant, contentsMeant, repliedBy}
-use Rattle.theorem_desk.specs.Desk.{Waiting, Wide, Heard}
+use Rattle.theorem_desk.specs.Desk.{Wide, Hears}
 use Rattle.theorem_desk.proofs.Fine as fine
 use Rattle.theorem_desk.proofs.Fine.{fine-bare, crc-load}
 
 -- whatever waits hears this of a frame's end
 abbrev pub Claim : ℕ → desk.Told → Ending → Type 0
-Claim cap t e =
-    (b : List ℕ) (g : ℕ) → Waiting cap b g → (rest : List ℕ) → Heard t (e .told .len) (hearOf cap b g (take (e .told .len) (e .room) ++ rest))
+Claim cap t e = Hears cap t (e .told .len) (e .room)
 
 -- a command as it should reply to the request in the world w
 abbrev pub Fine : ℕ → Setup → Bool → World → Obeyed → Type 0

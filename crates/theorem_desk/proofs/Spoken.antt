@@ -20,7 +20,7 @@ use Rattle.desk_replies.specs.declared.Head.{Head}
 use Rattle.desk_replies.specs.Replies as desk
 use Rattle.desk_replies.specs.Replies.{contentsOf, reply, goodOf, headOf, hearingOf, hearOf}
 use Rattle.theorem_desk.specs.Meant.{headMeant}
-use Rattle.theorem_desk.specs.Desk.{Waiting, Heard}
+use Rattle.theorem_desk.specs.Desk.{Waiting, Heard, Hears}
 use Rattle.theorem_desk.proofs.WireRead as wired
 
 -- what the desk is to hear of it
@@ -103,8 +103,7 @@ said-len false wait flags n = refl
 
 -- whatever waits hears this of a reply
 abbrev pub Answers : ℕ → desk.Told → Spoken → Type 0
-Answers cap t s =
-    (b : List ℕ) (g : ℕ) → Waiting cap b g → (rest : List ℕ) → Heard t (s .told .len) (hearOf cap b g (take (s .told .len) (s .room) ++ rest))
+Answers cap t s = Hears cap t (s .told .len) (s .room)
 
 module _ (cap status len : ℕ) (due : Bool) (wait : ℕ) (room : List ℕ) (r : 12 + cap ≤ length room) (t : 1 ≤ status) (u : status ≤ 7) (k : len ≤ cap)
     (z : cap < 256 ^ 2) where

@@ -2,8 +2,8 @@
 use Prim.Native.Nat.{ℕ, _+_, _^_, _≤_, _<_}
 use mathlib.Core.Path.{_≡_}
 use mathlib.Core.Bool.{Bool, true, _&&_}
-use mathlib.Core.List.{List, [], _++_}
-use lib.ListN.{length, take}
+use mathlib.Core.List.{List, []}
+use lib.ListN.{length}
 use lib.Dec.{eqb}
 use Rattle.laws.specs.Pick.{if_then_else_}
 use Rattle.wire_info.specs.declared.InfoData.{InfoData}
@@ -16,11 +16,11 @@ use Rattle.device_turns.specs.Turns.{Turned, turnOf}
 use Rattle.app_state.specs.declared.AppSetup.{AppSetup}
 use Rattle.app_state.specs.State.{AppWorld}
 use Rattle.app_dispatcher.specs.Acts.{Replied, idOf, repliedOf, resets}
-use Rattle.app_client.specs.Feed.{Called, holding, appFedOf}
+use Rattle.app_client.specs.Feed.{holding, appFedOf}
 use Rattle.theorem_app.specs.Demand.{Good}
-use Rattle.desk_replies.specs.Replies.{Typed, info, select, plain, Told, nothing, reply, hearOf}
+use Rattle.desk_replies.specs.Replies.{Typed, info, select, plain, Told, nothing, reply}
 use Rattle.theorem_desk.specs.Meant.{headMeant}
-use Rattle.theorem_desk.specs.Desk.{Waiting, Heard}
+use Rattle.theorem_desk.specs.Desk.{Hears}
 
 -- Info: the setup's numbers, the configured app version, mode 1, the record's baud
 abbrev pub infoMeant : ℕ → AppSetup → AppWorld → InfoData
@@ -78,16 +78,12 @@ pub record Wide (s : AppSetup) : Type 0 where
   pub key : s .key < 256 ^ 4
   pub id : length (s .id) ≡ 16
 
-abbrev pub repliedWith : Called → List ℕ → List ℕ
-repliedWith c rest = take (c .told .len) (c .room) ++ rest
-
 -- whatever a good app replies to a frame with a command up to 5, in answer 2, a desk that waits hears as what the app means
 abbrev pub AppRepliesHeard : ℕ → ℕ → Type 0
 AppRepliesHeard cap page =
     (s : AppSetup) (w : AppWorld) (l room : List ℕ) → Good cap page s w → Wide s → 12 + cap ≤ length room →
     appFedOf cap page s w l room .told .number ≡ 2 → cmdOf (readIn cap w l .bytes) ≤ 5 →
-    (f : List ℕ) (g : ℕ) → Waiting cap f g → (rest : List ℕ) →
-    Heard (meantIn cap s w l) (appFedOf cap page s w l room .told .len) (hearOf cap f g (repliedWith (appFedOf cap page s w l room) rest))
+    Hears cap (meantIn cap s w l) (appFedOf cap page s w l room .told .len) (appFedOf cap page s w l room .room)
 
 -- and where it answers 3, nothing is sent
 abbrev pub ResetsSilent : ℕ → ℕ → Type 0

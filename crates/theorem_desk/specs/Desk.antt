@@ -12,10 +12,10 @@ use Rattle.wire_frames.specs.Fields.{cmdOf, addrOf, flagsOf, dataOf}
 use Rattle.wire_frames.specs.Stored.{ended, Read, readOf}
 use Rattle.device_state.specs.declared.Setup.{Setup}
 use Rattle.device_state.specs.State.{World}
-use Rattle.device_feed.specs.Feed.{Called, fedOf}
+use Rattle.device_feed.specs.Feed.{fedOf}
 use Rattle.theorem_demands.specs.Demand.{Good}
 use Rattle.desk_requests.specs.declared.Request.{Request}
-use Rattle.desk_requests.specs.Requests.{Wrote, requestOf}
+use Rattle.desk_requests.specs.Requests.{requestOf}
 use Rattle.desk_replies.specs.Replies.{Told, nothing, faulty, Hearing, hearOf}
 use Rattle.theorem_desk.specs.Meant.{readIn, meantIn}
 
@@ -34,21 +34,25 @@ pub record Arrived (r : Request) (d : List ℕ) (n : ℕ) (s : Read) : Type 0 wh
   pub flags : flagsOf (s .bytes) ≡ r .flags
   pub load : dataOf (s .bytes) ≡ d
 
--- what was written, with whatever follows it
-abbrev pub sentWith : Wrote → List ℕ → List ℕ
-sentWith w rest = take (w .len) (w .room) ++ rest
+-- what is sent, the first n bytes of a room, with whatever follows it
+abbrev pub sentWith : ℕ → List ℕ → List ℕ → List ℕ
+sentWith n room rest = take n room ++ rest
 
 -- whatever a desk of capacity `cap` has written arrives at each device that waits, of any capacity `other` that holds the data
 abbrev pub RequestsArrive : ℕ → ℕ → Type 0
 RequestsArrive cap other =
     (r : Request) (d room : List ℕ) → requestOf cap r d room .number ≡ 0 → length d ≤ other → (f : List ℕ) (g : ℕ) → Waiting other f g → (rest : List ℕ) →
-    Arrived r d (requestOf cap r d room .len) (readOf other true f g (sentWith (requestOf cap r d room) rest))
+    Arrived r d (requestOf cap r d room .len) (readOf other true f g (sentWith (requestOf cap r d room .len) (requestOf cap r d room .room) rest))
 
 -- 2. Replies. The desk has heard this: n bytes were taken, and no frame is begun
 pub record Heard (t : Told) (n : ℕ) (h : Hearing) : Type 0 where
   pub taken : h .taken ≡ n
   pub got : h .got ≡ 0
   pub told : h .told ≡ t
+
+-- a desk that waits hears t of the first n bytes of a room, whatever follows them
+abbrev pub Hears : ℕ → Told → ℕ → List ℕ → Type 0
+Hears cap t n room = (f : List ℕ) (g : ℕ) → Waiting cap f g → (rest : List ℕ) → Heard t n (hearOf cap f g (sentWith n room rest))
 
 -- the numbers and bytes are as wide as the code's types have them
 pub record Wide (s : Setup) (w : World) : Type 0 where
@@ -57,16 +61,12 @@ pub record Wide (s : Setup) (w : World) : Type 0 where
   pub id : length (s .id) ≡ 16
   pub flash : (i : ℕ) → getD (w .flash) i 0xFF < 256
 
-abbrev pub repliedWith : Called → List ℕ → List ℕ
-repliedWith c rest = take (c .told .len) (c .room) ++ rest
-
 -- whatever a good device replies to a frame with a command up to 5, in answer 2 or 3, a desk that waits hears as what the device means
 abbrev pub RepliesHeard : ℕ → ℕ → Type 0
 RepliesHeard cap page =
     (s : Setup) (w : World) (l room : List ℕ) → Good cap page s w → Wide s w → 12 + cap ≤ length room →
     (fedOf cap page s w l room .told .number ≡ 2) ⊎ (fedOf cap page s w l room .told .number ≡ 3) → cmdOf (readIn cap w l .bytes) ≤ 5 →
-    (f : List ℕ) (g : ℕ) → Waiting cap f g → (rest : List ℕ) →
-    Heard (meantIn cap page s w l) (fedOf cap page s w l room .told .len) (hearOf cap f g (repliedWith (fedOf cap page s w l room) rest))
+    Hears cap (meantIn cap page s w l) (fedOf cap page s w l room .told .len) (fedOf cap page s w l room .room)
 
 -- 3. Cuts. The same call, after n bytes that went before
 abbrev pub later : ℕ → Hearing → Hearing
