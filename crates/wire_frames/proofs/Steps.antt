@@ -28,6 +28,16 @@ pub record Kept (cap : ℕ) (device : Bool) (f : List ℕ) (g : ℕ) : Type 0 wh
   pub count : length (begun cap f g) ≡ g
   pub stored : store cap f (begun cap f g) ≡ f
 
+pub hunted-small : (g b : ℕ) → huntedOf g b < 10
+hunted-small g b = go (eqb g 1) (eqb b 0x55) (eqb b 0xAA)
+  where
+    go : (t u v : Bool) → pick t (pick u 2 (pick v 1 0)) (pick v 1 0) < 10
+    go true true v = omega arith
+    go true false true = omega arith
+    go true false false = omega arith
+    go false u true = omega arith
+    go false u false = omega arith
+
 module _ (cap : ℕ) (device : Bool) (f : List ℕ) (g : ℕ) (w : Well cap device f g) where
   pub well-low : (k : ℕ) → k < 10 → Well cap device f k
   well-low k h = record { whole = w .whole; synced = w .synced; going = λ l. absurd (omega arith); inside = λ l. absurd (omega arith) }
@@ -65,18 +75,8 @@ module _ (cap : ℕ) (device : Bool) (f : List ℕ) (g : ℕ) (w : Well cap devi
       go false u false x y z =
           let e : g ≡ 0 = omega (arith, eqb-false g 1 x) in simp (x, z) (rw (e, begun-0) (ap (λ (t : Bool). fromHunt cap device (hunt t l)) z))
 
-  hunted-small : (b : ℕ) → huntedOf g b < 10
-  hunted-small b = go (eqb g 1) (eqb b 0x55) (eqb b 0xAA)
-    where
-      go : (t u v : Bool) → pick t (pick u 2 (pick v 1 0)) (pick v 1 0) < 10
-      go true true v = omega arith
-      go true false true = omega arith
-      go true false false = omega arith
-      go false u true = omega arith
-      go false u false = omega arith
-
   pub hunt-step : (b : ℕ) → g < 2 → After cap device f g (b ∷ []) f (huntedOf g b) Going
-  hunt-step b h = (well-low (huntedOf g b) (hunted-small b), λ l n. ap (outOf cap f n) (hunt-reads b l h))
+  hunt-step b h = (well-low (huntedOf g b) (hunted-small g b), λ l n. ap (outOf cap f n) (hunt-reads b l h))
 
   -- the bytes x make p of the bytes begun, and f' holds p
   more : (x p m f' : List ℕ) (g' : ℕ) → begun cap f g ++ x ≡ p → p ≡ 0xAA ∷ 0x55 ∷ m → length p ≡ g' → Open cap device p → f' ≡ store cap f p →

@@ -32,25 +32,25 @@ pub struct Taken {
     pub stop: Stop,
 }
 
-// What a byte does: how many bytes have begun, and whether the frame has ended.
+// What a byte does: how many bytes have begun, and whether the frame has ended. Counts within a frame are u32, which costs a small controller less.
 struct Step {
-    got: usize,
+    got: u32,
     end: End,
 }
 
 // The same of a turn, and how many bytes it took.
 struct Turn {
-    got: usize,
-    taken: usize,
+    got: u32,
+    taken: u32,
     end: End,
 }
 
 // The length in the header.
-fn len(f: &[u8]) -> usize
+fn len(f: &[u8]) -> u32
     requires { ⌜ length (now f) ≡ 64 ⌝ }
     ensures { λ r. ⌜ (r ≡ lenOf (now (f .entry))) × (r < 65536) ⌝ }
 {
-    le::read16(f[8], f[9]) as usize
+    le::read16(f[8], f[9]) as u32
 }
 
 // What a whole header says: going on, or the frame's end.
@@ -70,25 +70,25 @@ fn body_crc(f: &[u8], m: usize) -> u16
 }
 
 // What a whole frame of n data bytes says, its last byte being high.
-fn finish(f: &[u8], n: usize, device: bool, high: u8) -> Kind
+fn finish(f: &[u8], n: u32, device: bool, high: u8) -> Kind
     requires { ⌜ (length (now f) ≡ 64) × (n ≤ 52) × (n ≡ lenOf (now f)) ⌝ }
     ensures { λ r. ⌜ r ≡ checked device (take (10 + n) (now (f .entry)) ++ (getD (now (f .entry)) 62 0 ∷ high ∷ [])) ⌝ }
 {
     if frame::heard(device, f[3]) {
         return Kind::Overheard;
     }
-    let c = body_crc(f, 10 + n);
+    let c = body_crc(f, 10 + n as usize);
     if c == le::read16(f[62], high) {
         return Kind::Good;
     }
     Kind::CrcMismatch
 }
 
-fn head(f: &mut [u8], got: usize, device: bool, b: u8) -> Step
+fn head(f: &mut [u8], got: u32, device: bool, b: u8) -> Step
     requires { ⌜ (2 ≤ got) × (got < 10) × Well 52 device (now f) got ⌝ }
     ensures { λ r. ⌜ After 52 device (now (f .entry)) got (b ∷ []) (now (f .exit)) (r .got) (r .end) ⌝ }
 {
-    f[got] = b;
+    f[got as usize] = b;
     if got < 9 {
         return Step {
             got: got + 1,
@@ -128,7 +128,7 @@ fn fill(f: &mut [u8], got: usize, bytes: &[u8], at: usize, m: usize)
 }
 
 // How many bytes are still to come that are only stored: the header's but for its last, or the data.
-fn wanted(f: &[u8], got: usize) -> usize
+fn wanted(f: &[u8], got: u32) -> u32
     requires { ⌜ length (now f) ≡ 64 ⌝ }
     ensures { λ r. ⌜ r ≡ wantedOf (now (f .entry)) got ⌝ }
 {
@@ -145,17 +145,17 @@ fn wanted(f: &[u8], got: usize) -> usize
     end - got
 }
 
-fn least(a: usize, b: usize) -> usize
+fn least(a: u32, b: usize) -> u32
     ensures { λ r. ⌜ r ≡ pick (leb a b) a b ⌝ }
 {
-    if a <= b {
+    if a as usize <= b {
         return a;
     }
-    b
+    b as u32
 }
 
 // The CRC's two bytes.
-fn tail(f: &mut [u8], got: usize, device: bool, b: u8) -> Step
+fn tail(f: &mut [u8], got: u32, device: bool, b: u8) -> Step
     requires { ⌜ (10 ≤ got) × (10 + lenOf (now f) ≤ got) × Well 52 device (now f) got ⌝ }
     ensures { λ r. ⌜ After 52 device (now (f .entry)) got (b ∷ []) (now (f .exit)) (r .got) (r .end) ⌝ }
 {
@@ -176,12 +176,12 @@ fn tail(f: &mut [u8], got: usize, device: bool, b: u8) -> Step
 }
 
 // A byte that is looked at.
-fn push(f: &mut [u8], got: usize, device: bool, b: u8) -> Step
+fn push(f: &mut [u8], got: u32, device: bool, b: u8) -> Step
     requires { ⌜ (10 ≤ got → 10 + lenOf (now f) ≤ got) × Well 52 device (now f) got ⌝ }
     ensures { λ r. ⌜ After 52 device (now (f .entry)) got (b ∷ []) (now (f .exit)) (r .got) (r .end) ⌝ }
 {
     if got < 2 {
-        let g = sync::hunted(got, b);
+        let g = sync::hunted(got as usize, b) as u32;
         return Step {
             got: g,
             end: End::Going,
@@ -194,7 +194,7 @@ fn push(f: &mut [u8], got: usize, device: bool, b: u8) -> Step
 }
 
 // One turn, from the byte at `at`: as many bytes as are wanted and at hand, or one byte that is looked at.
-fn take_turn(f: &mut [u8], got: usize, device: bool, bytes: &[u8], at: usize) -> Turn
+fn take_turn(f: &mut [u8], got: u32, device: bool, bytes: &[u8], at: usize) -> Turn
     requires { ⌜ (at < length (now bytes)) × Well 52 device (now f) got ⌝ }
     ensures { λ r. ⌜ Turned 52 device (now (f .entry)) got (now (bytes .entry)) at (now (f .exit)) (r .got) (r .taken) (r .end) ⌝ }
 {
@@ -209,7 +209,7 @@ fn take_turn(f: &mut [u8], got: usize, device: bool, bytes: &[u8], at: usize) ->
         };
     }
     let m = least(want, bytes.len() - at);
-    fill(f, got, bytes, at, m);
+    fill(f, got as usize, bytes, at, m as usize);
     Turn {
         got: got + m,
         taken: m,
@@ -234,11 +234,11 @@ fn pass(f: &mut [u8], start: usize, device: bool, bytes: &[u8]) -> Passed
     ensures { λ r. ⌜ seen (now (f .exit)) (r .got) (r .taken) (r .stop) ≡
         outOf 52 (now (f .entry)) (length (now (bytes .entry))) (readFrame 52 device (begun 52 (now (f .entry)) start ++ now (bytes .entry))) ⌝ }
 {
-    let mut got = start;
+    let mut got = start as u32;
     let mut i: usize = 0;
     while i < bytes.len() {
         let t = take_turn(f, got, device, bytes, i);
-        i += t.taken;
+        i += t.taken as usize;
         got = t.got;
         let end = t.end;
         if let End::Over(k) = end {
@@ -251,7 +251,7 @@ fn pass(f: &mut [u8], start: usize, device: bool, bytes: &[u8]) -> Passed
         }
     }
     Passed {
-        got: got,
+        got: got as usize,
         taken: i,
         stop: Stop::Going,
     }

@@ -1,4 +1,6 @@
 use borrow.Author.Tests.{le-leb, lt-leb}
+use native.Mathlib.Omega.{arith}
+use borrow.Author.Needs.{needs}
 use Rattle.wire_reader.proofs.least.Statement.{statement}
 use Rattle.wire_reader.proofs.least.Tie as tie
 
@@ -9,4 +11,4 @@ returns-2 : tie.Need-returns-2
 returns-2 c = simp (lt-leb _ _ (c .if1 .left))
 
 pub least-spec : {M : Type 1} → statement M
-least-spec = tie.close (tie.spec returns returns-2)
+least-spec = tie.close (tie.spec returns (λ c. search needs) returns-2)

@@ -4,6 +4,7 @@ use mathlib.Core.List.{_++_}
 use lib.ListN.{length}
 use Rattle.wire_frames.specs.Reading.{readFrame}
 use Rattle.wire_frames.specs.Stored.{begun, outOf}
+use Rattle.wire_frames.proofs.Steps.{well-small}
 use Rattle.wire_reader.proofs.Loop.{Inv, again, over-at, all}
 use native.Mathlib.Omega.{arith}
 use borrow.Author.Needs.{needs}
@@ -15,6 +16,10 @@ Inv-loop f₀ start device bytes got₀ i₀ f got i = Inv 52 device bytes (outO
 
 abbrev μ-loop : tie.MeasureT-loop
 μ-loop f₀ start device bytes got₀ i₀ f got i = length bytes - i
+
+cast-got : tie.Need-cast-got Inv-loop μ-loop
+cast-got c = let a = c .before .before .args in
+    omega (arith, well-small 52 (a .device) (a .f .now) (a .start) (c .before .before .pre))
 
 loop-holds : tie.Need-loop-holds Inv-loop μ-loop
 loop-holds c = record { within = omega arith; well = c .before .before .pre; reads = refl }
@@ -53,6 +58,12 @@ loop-again c =
     again 52 (a .device) (a .bytes .now) _ (v .f) (v .got) (v .i) (v .inv) (t .last .0) (t .result .got) (t .result .taken)
     (rw (c .enum-told .given .1) at (t .ensures))
 
+cast-t15 : tie.Need-cast-t15 Inv-loop μ-loop
+cast-t15 c =
+    let a = c .before .before .before .before .args in
+    let v = c .before .loop in
+    omega (arith, well-small 52 (a .device) (v .f) (v .got) (v .inv .well))
+
 returns-2 : tie.Need-returns-2 Inv-loop μ-loop
 returns-2 c =
     let a = c .before .before .before .before .args in
@@ -65,8 +76,10 @@ pass-spec =
     (tie.spec
     Inv-loop
     μ-loop
+    cast-got
     loop-holds
     take-turn-requires
+    (λ c. search needs)
     add-i
     (λ c. search needs)
     (λ c κs. search needs)
@@ -75,5 +88,6 @@ pass-spec =
     (λ c. search needs)
     loop-less
     loop-again
+    cast-t15
     (λ c. search needs)
     returns-2)

@@ -27,8 +27,8 @@ fill-requires c κs =
     wanted-fits 52 (a .device) (a .f .now) (a .got) (p .1) (a .bytes .now) (a .at) (c .before .least .result) (p .0)
     (λ z. c .before .before .if1 .left (e ∙ z)) (rw e at (c .before .least .ensures))
 
-add-t17 : tie.Need-add-t17
-add-t17 c =
+add-t22 : tie.Need-add-t22
+add-t22 c =
     let at-least = c .before .before .before .before in
     let at-if1 = at-least .before in
     let at-wanted = at-if1 .before in
@@ -67,7 +67,8 @@ take-turn-spec =
     returns
     (λ c. search needs)
     (λ c κs. search needs)
+    (λ c. search needs)
     fill-requires
-    add-t17
+    add-t22
     (λ c. search needs)
     returns-2)
