@@ -5,7 +5,7 @@ use mathlib.Core.List.{List, [], _∷_, _++_, append-nil, append-assoc}
 use mathlib.Core.Bool.{Bool, true, false}
 use mathlib.Core.Logic.{inl, inr}
 use native.Mathlib.Omega.{arith}
-use borrow.Author.Tests.{ltb-true, ltb-false, le-ltb, lt-leb, eqb-true, eqb-false, leb-true, leb-false}
+use borrow.Author.Tests.{ltb-true, ltb-false, lt-ltb, le-ltb, lt-leb, eqb-true, eqb-false, leb-true, leb-false}
 use lib.ListN.{length, getD, take, drop, set, length-append, length-drop}
 use lib.Seq.{take-at, drop-at, length-take-le, paste, length-paste-head, drop-cons}
 use lib.Dec.{ltb, leb, eqb}
@@ -257,6 +257,9 @@ module _ (cap : ℕ) (device : Bool) (f : List ℕ) (g : ℕ) (w : Well cap devi
         (set-high cap f (w .whole) b ∙ sym (store-crc cap f (w .whole) x s))
 
   -- where nothing is wanted past the header, the data are there
+  pub wanted-last : wantedOf f g ≡ 0 → 2 ≤ g → g < 10 → g ≡ 9
+  wanted-last e h k = let z : 9 - g ≡ 0 = rw (le-ltb g 2 h, lt-ltb g 10 k) at e in omega arith
+
   pub wanted-none : wantedOf f g ≡ 0 → 10 ≤ g → 10 + lenOf f ≤ g
   wanted-none e h = let z : 10 + lenOf f - g ≡ 0 = rw (le-ltb g 2 (omega arith), le-ltb g 10 h) at e in omega arith
 

@@ -84,21 +84,16 @@ fn finish(f: &[u8], n: u32, device: bool, high: u8) -> Kind
     Kind::CrcMismatch
 }
 
-fn head(f: &mut [u8], got: u32, device: bool, b: u8) -> Step
-    requires { ⌜ (2 ≤ got) × (got < 10) × Well 52 device (now f) got ⌝ }
-    ensures { λ r. ⌜ After 52 device (now (f .entry)) got (b ∷ []) (now (f .exit)) (r .got) (r .end) ⌝ }
+// The header's last byte.
+fn head(f: &mut [u8], device: bool, b: u8) -> Step
+    requires { ⌜ Well 52 device (now f) 9 ⌝ }
+    ensures { λ r. ⌜ After 52 device (now (f .entry)) 9 (b ∷ []) (now (f .exit)) (r .got) (r .end) ⌝ }
 {
-    f[got as usize] = b;
-    if got < 9 {
-        return Step {
-            got: got + 1,
-            end: End::Going,
-        };
-    }
+    f[9] = b;
     let end = judge(f, device);
     if let End::Going = end {
         return Step {
-            got: got + 1,
+            got: 10,
             end: End::Going,
         };
     }
@@ -177,7 +172,7 @@ fn tail(f: &mut [u8], got: u32, device: bool, b: u8) -> Step
 
 // A byte that is looked at.
 fn push(f: &mut [u8], got: u32, device: bool, b: u8) -> Step
-    requires { ⌜ (10 ≤ got → 10 + lenOf (now f) ≤ got) × Well 52 device (now f) got ⌝ }
+    requires { ⌜ (2 ≤ got → got < 10 → got ≡ 9) × (10 ≤ got → 10 + lenOf (now f) ≤ got) × Well 52 device (now f) got ⌝ }
     ensures { λ r. ⌜ After 52 device (now (f .entry)) got (b ∷ []) (now (f .exit)) (r .got) (r .end) ⌝ }
 {
     if got < 2 {
@@ -188,7 +183,7 @@ fn push(f: &mut [u8], got: u32, device: bool, b: u8) -> Step
         };
     }
     if got < 10 {
-        return head(f, got, device, b);
+        return head(f, device, b);
     }
     tail(f, got, device, b)
 }

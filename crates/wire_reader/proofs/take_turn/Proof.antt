@@ -1,5 +1,5 @@
 use mathlib.Core.Path.{sym, _∙_}
-use Rattle.wire_frames.proofs.Steps.{wanted-none, wanted-fits, wanted-turn, byte-turn}
+use Rattle.wire_frames.proofs.Steps.{wanted-last, wanted-none, wanted-fits, wanted-turn, byte-turn}
 use native.Mathlib.Omega.{arith}
 use borrow.Author.Needs.{needs}
 use Rattle.wire_reader.proofs.take_turn.Statement.{statement}
@@ -9,7 +9,8 @@ push-requires : tie.Need-push-requires
 push-requires c κs =
     let a = c .before .before .before .before .before .before .before .args in
     let p = c .before .before .before .before .before .before .before .pre in
-    (wanted-none 52 (a .device) (a .f .now) (a .got) (p .1) (sym (c .before .before .before .wanted .ensures) ∙ c .before .before .if1 .taken), p .1)
+    let e = sym (c .before .before .before .wanted .ensures) ∙ c .before .before .if1 .taken in
+    (wanted-last 52 (a .device) (a .f .now) (a .got) (p .1) e, wanted-none 52 (a .device) (a .f .now) (a .got) (p .1) e, p .1)
 
 returns : tie.Need-returns
 returns c =
