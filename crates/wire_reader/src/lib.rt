@@ -91,13 +91,11 @@ fn head(f: &mut [u8], device: bool, b: u8) -> Step
 {
     f[9] = b;
     let end = judge(f, device);
+    let mut got: u32 = 0;
     if let End::Going = end {
-        return Step {
-            got: 10,
-            end: End::Going,
-        };
+        got = 10;
     }
-    Step { got: 0, end: end }
+    Step { got: got, end: end }
 }
 
 // m bytes from at on, copied to got and on, one by one.
@@ -155,19 +153,21 @@ fn tail(f: &mut [u8], got: u32, device: bool, b: u8) -> Step
     ensures { λ r. ⌜ After 52 device (now (f .entry)) got (b ∷ []) (now (f .exit)) (r .got) (r .end) ⌝ }
 {
     let n = len(f);
+    let mut s = Step {
+        got: got + 1,
+        end: End::Going,
+    };
     if got == 10 + n {
         f[62] = b;
-        return Step {
-            got: got + 1,
-            end: End::Going,
+    } else {
+        let kind = finish(f, n, device, b);
+        f[63] = b;
+        s = Step {
+            got: 0,
+            end: End::Over(kind),
         };
     }
-    let kind = finish(f, n, device, b);
-    f[63] = b;
-    Step {
-        got: 0,
-        end: End::Over(kind),
-    }
+    s
 }
 
 // A byte that is looked at.

@@ -9,7 +9,8 @@ returns : tie.Need-returns
 returns c =
     let at-entry = c .before .before .before .before .before in
     let a = at-entry .args in
-    passed-step 52 (a .device) (a .f .now) 9 (at-entry .pre) (a .b) (omega arith) (sym (c .before .before .judge .ensures) ∙ c .enum-told .given .1)
+    let e = c .enum-told .given .1 in
+    rw e (passed-step 52 (a .device) (a .f .now) 9 (at-entry .pre) (a .b) (omega arith) (sym (c .before .before .judge .ensures) ∙ e))
 
 returns-2 : tie.Need-returns-2
 returns-2 c =
@@ -26,7 +27,7 @@ head-spec =
     (λ c κs. search needs)
     (λ c. search needs)
     (λ c. search needs)
-    returns
     (λ c. search needs)
+    returns
     (λ c. search needs)
     returns-2)

@@ -17,6 +17,9 @@ place c =
     let p = c .before .before .before .pre in
     (c .len .ensures .0, going-size 52 (a .device) (a .f .now) (p .2 .going (p .0)), p .1, p .2 .inside (p .0))
 
+add-if1 : tie.Need-add-if1
+add-if1 c = omega (arith, place c)
+
 returns : tie.Need-returns
 returns c =
     let a = c .before .before .before .before .args in
@@ -40,12 +43,12 @@ tail-spec =
     tie.close
     (tie.spec
     (λ c κs. search needs)
+    add-if1
     (λ c. search needs)
     (λ c. search needs)
+    finish-requires
     (λ c. search needs)
     (λ c. search needs)
     returns
-    finish-requires
-    (λ c. search needs)
     (λ c. search needs)
     returns-2)
