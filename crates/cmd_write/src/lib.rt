@@ -21,9 +21,12 @@ ghost use Rattle.store_flash.specs.Flash.{storedNumber, nonePending};
 ghost use Rattle.wire_frames.specs.Fields.{dataOf, Ok, WriteError};
 ghost use Rattle.cmd_write.specs.Write.{running, fails, pageOut, poured, flushed, writeFits, begin, writtenOf, wroteTo, writeOf};
 
+// The page in 32 bits, in which a run counts: a usize has 64, which a 32-bit controller reckons in two words.
+const PAGE: u32 = PAGE_SIZE as u32;
+
 // How far a run is: how many bytes of the page are filled, the address of the next byte, and whether the storage refused a page.
 struct Run {
-    fill: usize,
+    fill: u32,
     next: u32,
     failed: bool,
 }
@@ -49,12 +52,12 @@ fn refused(failed: bool, stored: Stored) -> bool
 }
 
 // The first n bytes of the page are written, to where they belong before the next byte.
-fn page_out(w: Run, n: usize, page: &[u8], flash: &mut [u8]) -> Run
+fn page_out(w: Run, n: u32, page: &[u8], flash: &mut [u8]) -> Run
     requires { ⌜ n ≤ w .next ⌝ }
     ensures { λ r. ⌜ running (now (flash .exit)) (now (page .entry)) (r .fill) (r .next) (r .failed) ≡
         pageOut 64 n (running (now (flash .entry)) (now (page .entry)) (w .fill) (w .next) (w .failed)) ⌝ }
 {
-    let stored = storage::write_part(flash, w.next as usize - n, page, n);
+    let stored = storage::write_part(flash, (w.next - n) as usize, page, n as usize);
     Run {
         fill: 0,
         next: w.next,
@@ -63,31 +66,32 @@ fn page_out(w: Run, n: usize, page: &[u8], flash: &mut [u8]) -> Run
 }
 
 // m bytes from the i-th on, laid in the page from a place on.
-fn lay(page: &mut [u8], at: usize, d: &[u8], i: usize, m: usize)
-    requires { ⌜ (length (now page) ≡ 64) × (at + m ≤ 64) × (i + m ≤ length (now d)) ⌝ }
+fn lay(page: &mut [u8], at: u32, d: &[u8], i: u32, m: u32)
+    requires { ⌜ (length (now page) ≡ 64) × (at + m ≤ 64) × (i + m ≤ length (now d)) × (length (now d) ≤ 54) ⌝ }
     ensures { λ r. ⌜ now (page .exit) ≡ paste (now (page .entry)) at (drop i (now (d .entry))) m ⌝ }
 {
-    let mut j: usize = 0;
+    let mut j: u32 = 0;
     while j < m {
-        page[at + j] = d[i + j];
+        page[(at + j) as usize] = d[(i + j) as usize];
         j += 1;
     }
 }
 
 // m bytes more, from the i-th on, for which the page has room.
-fn took(w: Run, d: &[u8], i: usize, m: usize, page: &mut [u8], flash: &mut [u8]) -> Run
-    requires { ⌜ (0 < m) × (w .fill + m ≤ 64) × (i + m ≤ length (now d)) × (w .fill ≤ w .next) × (w .next < 2 ^ 25) × (length (now page) ≡ 64) ⌝ }
+fn took(w: Run, d: &[u8], i: u32, m: u32, page: &mut [u8], flash: &mut [u8]) -> Run
+    requires { ⌜ (0 < m) × (w .fill + m ≤ 64) × (i + m ≤ length (now d)) × (w .fill ≤ w .next) × (w .next < 2 ^ 25) × (length (now page) ≡ 64) ×
+        (length (now d) ≤ 54) ⌝ }
     ensures { λ r. ⌜ running (now (flash .exit)) (now (page .exit)) (r .fill) (r .next) (r .failed) ≡
         poured 64 (running (now (flash .entry)) (now (page .entry)) (w .fill) (w .next) (w .failed)) (take m (drop i (now (d .entry)))) ⌝ }
 {
     lay(page, w.fill, d, i, m);
     let more = Run {
         fill: w.fill + m,
-        next: w.next + m as u32,
+        next: w.next + m,
         failed: w.failed,
     };
-    if more.fill == PAGE_SIZE {
-        return page_out(more, PAGE_SIZE, page, flash);
+    if more.fill == PAGE {
+        return page_out(more, PAGE, page, flash);
     }
     more
 }
@@ -128,16 +132,17 @@ fn data_of<'a>(f: &'a [u8]) -> &'a [u8]
 }
 
 // Where a write may stand: with none pending at a page's start, else where the last one ended.
-fn fits(capacity: usize, f: &FrameBytes, next: u32) -> bool
+fn fits(capacity: usize, f: &[u8], next: u32) -> bool
+    requires { ⌜ length (now f) ≡ 64 ⌝ }
     ensures { λ r. ⌜ r ≡ writeFits 64 capacity (now (f .entry)) next ⌝ }
 {
     let addr = le::read24(f[4], f[5], f[6]);
     let len = le::read16(f[8], f[9]);
-    if capacity < addr as usize + len as usize {
+    if capacity < (addr + len as u32) as usize {
         return false;
     }
     if next == NONE_PENDING {
-        return addr as usize % PAGE_SIZE == 0;
+        return addr % PAGE == 0;
     }
     addr == next
 }
@@ -152,14 +157,14 @@ fn status_of(failed: bool) -> Status
 }
 
 // How many of n bytes fit in what is left of the page.
-fn room(fill: usize, n: usize) -> usize
+fn room(fill: u32, n: u32) -> u32
     requires { ⌜ (fill < 64) × (0 < n) ⌝ }
     ensures { λ r. ⌜ (0 < r) × (fill + r ≤ 64) × (r ≤ n) ⌝ }
 {
-    if n <= PAGE_SIZE - fill {
+    if n <= PAGE - fill {
         return n;
     }
-    PAGE_SIZE - fill
+    PAGE - fill
 }
 
 // The data: what the page has room for, and then what is left.
@@ -169,9 +174,10 @@ fn poured(d: &[u8], start: Run, page: &mut [u8], flash: &mut [u8]) -> Run
         poured 64 (running (now (flash .entry)) (now (page .entry)) (start .fill) (start .next) (start .failed)) (now (d .entry)) ⌝ }
 {
     let mut w = start;
-    let mut i = 0;
-    while i < d.len() {
-        let m = room(w.fill, d.len() - i);
+    let n = d.len() as u32;
+    let mut i: u32 = 0;
+    while i < n {
+        let m = room(w.fill, n - i);
         w = took(w, d, i, m, page, flash);
         i += m;
     }
@@ -186,7 +192,7 @@ fn written(f: &[u8], page: &mut [u8], flash: &mut [u8]) -> Run
 {
     let addr = le::read24(f[4], f[5], f[6]);
     let start = Run {
-        fill: addr as usize % PAGE_SIZE,
+        fill: addr % PAGE,
         next: addr,
         failed: false,
     };
@@ -216,7 +222,7 @@ pub fn cmd_write(
             let w = written(f, page, flash);
             return Ran {
                 status: status_of(w.failed),
-                fill: w.fill,
+                fill: w.fill as usize,
                 next: w.next,
             };
         }

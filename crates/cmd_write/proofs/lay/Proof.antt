@@ -48,6 +48,8 @@ lay-spec =
     (λ c. search needs)
     (λ c. search needs)
     (λ c. search needs)
+    (λ c. search needs)
+    (λ c. search needs)
     loop-again
     (λ c. search needs)
     returns)

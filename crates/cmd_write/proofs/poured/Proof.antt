@@ -9,12 +9,12 @@ use Rattle.cmd_write.proofs.poured.Statement.{statement}
 use Rattle.cmd_write.proofs.poured.Tie as tie
 
 abbrev Inv-loop : tie.InvT-loop
-Inv-loop d page₀ flash₀ w₀ i₀ page flash w i =
+Inv-loop d page₀ flash₀ w₀ n i₀ page flash w i =
     Pouring d (poured 64 (running flash₀ page₀ (w₀ .fill) (w₀ .next) (w₀ .failed)) d) (w₀ .next) (length flash₀)
     (running flash page (w .fill) (w .next) (w .failed)) i
 
 abbrev μ-loop : tie.MeasureT-loop
-μ-loop d page₀ flash₀ w₀ i₀ page flash w i = length d - i
+μ-loop d page₀ flash₀ w₀ n i₀ page flash w i = n - i
 
 loop-holds : tie.Need-loop-holds Inv-loop μ-loop
 loop-holds c =
@@ -38,7 +38,7 @@ took-requires c κs =
     let v = at-loop .loop .inv in
     let p = at-loop .before .before .before .before .pre in
     let e = at-room .room .ensures in
-    (e .0, e .1, omega (arith, e .2, at-room .before .loop-test .taken), v .stands .back, omega (arith, v .near, v .within, p .0, p .3), v .long)
+    (e .0, e .1, omega (arith, e .2, at-room .before .loop-test .taken), v .stands .back, omega (arith, v .near, v .within, p .0, p .3), v .long, p .0)
 
 add-i : tie.Need-add-i Inv-loop μ-loop
 add-i c =
@@ -71,6 +71,7 @@ poured-spec =
     (tie.spec
     Inv-loop
     μ-loop
+    (λ c. search needs)
     loop-holds
     (λ c. search needs)
     room-requires

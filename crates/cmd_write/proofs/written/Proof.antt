@@ -52,7 +52,6 @@ written-spec =
     (λ c. search needs)
     (λ c κs. search needs)
     (λ c. search needs)
-    (λ c. search needs)
     (λ c κs. search needs)
     poured-requires
     (λ c κs. search needs)
