@@ -21,15 +21,16 @@ pub enum Stored {
     OutOfBounds,
 }
 
-// The cells from at on: a write can only clear bits.
+// The cells from at on: a write can only clear bits. It counts in 32 bits, at most a page: a usize has 64, which a 32-bit controller reckons in two words.
 fn program(flash: &mut [u8], at: usize, bytes: &[u8])
-    requires { ⌜ at + length (now bytes) ≤ length (now flash) ⌝ }
+    requires { ⌜ (at + length (now bytes) ≤ length (now flash)) × (length (now bytes) ≤ 64) ⌝ }
     ensures { λ r. ⌜ now (flash .exit) ≡ written (now (flash .entry)) at (now (bytes .entry)) ⌝ }
 {
-    let mut j = 0;
-    while j < bytes.len() {
-        let k = at + j;
-        flash[k] = flash[k] & bytes[j];
+    let n = bytes.len() as u32;
+    let mut j: u32 = 0;
+    while j < n {
+        let k = at + j as usize;
+        flash[k] = flash[k] & bytes[j as usize];
         j += 1;
     }
 }
@@ -52,14 +53,15 @@ pub fn write(flash: &mut [u8], offset: usize, bytes: &[u8]) -> Stored
     if offset % PAGE_SIZE != 0 {
         return Stored::NotAligned;
     }
-    if PAGE_SIZE < bytes.len() {
+    let n = bytes.len();
+    if PAGE_SIZE < n {
         return Stored::NotAligned;
     }
-    // offset + bytes.len() itself may not fit a usize
-    if flash.len() < bytes.len() {
+    // offset + n itself may not fit a usize
+    if flash.len() < n {
         return Stored::OutOfBounds;
     }
-    if flash.len() - bytes.len() < offset {
+    if flash.len() - n < offset {
         return Stored::OutOfBounds;
     }
     program(flash, offset, bytes);

@@ -11,11 +11,11 @@ use Rattle.store_flash.proofs.storage.program.Statement.{statement}
 use Rattle.store_flash.proofs.storage.program.Tie as tie
 
 abbrev Inv-loop : tie.InvT-loop
-Inv-loop flash₀ at bytes j₀ flash j =
+Inv-loop flash₀ at bytes n j₀ flash j =
     (j ≤ length bytes) × (length flash ≡ length flash₀) × (written flash (at + j) (drop j bytes) ≡ written flash₀ at bytes)
 
 abbrev μ-loop : tie.MeasureT-loop
-μ-loop flash₀ at bytes j₀ flash j = length bytes - j
+μ-loop flash₀ at bytes n j₀ flash j = n - j
 
 loop-holds : tie.Need-loop-holds Inv-loop μ-loop
 loop-holds c = (search needs, search needs, rw add-zero)
@@ -34,7 +34,10 @@ program-spec =
     (tie.spec
     Inv-loop
     μ-loop
+    (λ c. search needs)
     loop-holds
+    (λ c. search needs)
+    (λ c. search needs)
     (λ c. search needs)
     (λ c. search needs)
     (λ c. search needs)
