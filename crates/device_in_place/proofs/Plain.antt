@@ -58,9 +58,9 @@ module _ (cap : ℕ) (device : Bool) (f : List ℕ) (g : ℕ) where
   unfolding layByteOf
   lay-none b e = sym (simp e)
 
-  -- the place is past the sync word, and in the frame
-  pub plain-within : begins ≡ true → plainAt f g ≡ true → g < 12 + cap
-  plain-within e p = omega (arith, well-small cap device (ready f) g (part-start cap device f g e .well))
+  -- the place is in the frame
+  pub begun-within : begins ≡ true → g < 12 + cap
+  begun-within e = omega (arith, well-small cap device (ready f) g (part-start cap device f g e .well))
 
   -- AA 55 is there, so laying it changes nothing
   pub synced : begins ≡ true → 2 ≤ g → ready f ≡ f
@@ -94,7 +94,7 @@ module _ (cap : ℕ) (device : Bool) (f : List ℕ) (g : ℕ) where
             let v = and-both (ltb 9 g) (ltb g (10 + lenOf f)) u in
             let h : 9 < g = ltb-true _ _ (v .0) in
             let i : g < 10 + lenOf f = ltb-true _ _ (v .1) in
-            rw (← over-set f g b (omega (arith, plain-within e p, well .whole))) (data-step cap device f g well h (b ∷ []) (omega arith))
+            rw (← over-set f g b (omega (arith, begun-within e, well .whole))) (data-step cap device f g well h (b ∷ []) (omega arith))
 
     pub plain-read : partOf cap device f g (b ∷ []) ≡ record { bytes = set f g b; got = g + 1; taken = 1; said = quiet }
     plain-read =

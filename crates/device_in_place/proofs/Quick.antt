@@ -22,7 +22,7 @@ use Rattle.device_feed.specs.Feed.{fedOf}
 use Rattle.device_feed.proofs.Feeding.{call-quiet, call-taken}
 use Rattle.device_in_place.specs.On.{frameIn, pageIn, worldIn}
 use Rattle.device_in_place.specs.Byte.{plainAt, Laid, laidTo, layByteOf, clearOf, byteOn}
-use Rattle.device_in_place.proofs.Plain.{plain-within, plain-read}
+use Rattle.device_in_place.proofs.Plain.{begun-within, plain-read}
 
 pub clear-all : (a b c : Bool) → a ≡ true → b ≡ true → c ≡ a && (b && c)
 clear-all a b c x y = rw (x, y) refl
@@ -79,7 +79,7 @@ module _ (erase capacity idLen kind : ℕ) (n : Numbers) (s : List ℕ) (b flash
     byte-tried w l e =
         let begun : Bool = eqb (length frame) 64 && wellOf 52 true frame (n .got) in
         let in-frame : begun && plainAt frame (n .got) ≡ true → (n .got) < 64 =
-        λ t. let two = and-both begun (plainAt frame (n .got)) t in plain-within 52 true frame (n .got) (two .0) (two .1) in
+        λ t. begun-within 52 true frame (n .got) (and-both begun (plainAt frame (n .got)) t .0) in
         outcome (begun && plainAt frame (n .got)) in-frame l e ∙
         ap (λ (v : Laid). laidTo (v .done) (pick (v .done) (set s (n .got) b) s)) e ∙ sym (tried w)
 
@@ -150,7 +150,7 @@ module _ (setup : Setup) (s : List ℕ) (n : Numbers) (b flash meta room : ℕ) 
   well = and-both (eqb (length f) 64) (wellOf 52 true f got) begins .1
 
   pub byte-within : got < 64
-  byte-within = plain-within 52 true f got begins plain
+  byte-within = begun-within 52 true f got begins
 
   clear : (up ≡ true) × (run ≡ true) × (lengths ≡ 0)
   clear =

@@ -194,7 +194,8 @@ pub fn feed_on(
 }
 
 // Whether the byte at this place is only stored: past the sync word it is one of the header but for its last, or one of the data.
-fn is_plain(f: &[u8], got: usize) -> bool
+// A frame's places are small, and 32 bits are what a controller compares at once.
+fn is_plain(f: &[u8], got: u32) -> bool
     requires { ⌜ length (now f) ≡ 64 ⌝ }
     ensures { λ r. ⌜ r ≡ plainAt (now (f .entry)) got ⌝ }
 {
@@ -207,7 +208,7 @@ fn is_plain(f: &[u8], got: usize) -> bool
     if got == 9 {
         return false;
     }
-    got < 10 + le::read16(f[8], f[9]) as usize
+    got < 10 + le::read16(f[8], f[9]) as u32
 }
 
 // Stores one byte more where that is all there is to do, and says whether it did. Most bytes of a stream are such ones: to take them one at a time costs
@@ -216,7 +217,7 @@ fn lay_byte(f: &mut [u8], got: usize, device: bool, b: u8) -> bool
     ensures { λ r. ⌜ laidTo r (now (f .exit)) ≡ layByteOf 52 device (now (f .entry)) got b ⌝ }
 {
     if frame::begins(f, got, device) {
-        if is_plain(f, got) {
+        if is_plain(f, got as u32) {
             f[got] = b;
             return true;
         }

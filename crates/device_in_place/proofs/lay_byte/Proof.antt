@@ -1,11 +1,17 @@
 use Prim.Native.Nat.{_<_}
 use mathlib.Core.Path.{_≡_, sym, _∙_}
+use native.Mathlib.Omega.{arith}
 use lib.ListN.{length}
 use Rattle.wire_frames.proofs.Parts.{part-length}
-use Rattle.device_in_place.proofs.Plain.{plain-within, lay-done, lay-elsewhere, lay-none}
+use Rattle.device_in_place.proofs.Plain.{begun-within, lay-done, lay-elsewhere, lay-none}
 use borrow.Author.Needs.{needs}
 use Rattle.device_in_place.proofs.lay_byte.Statement.{statement}
 use Rattle.device_in_place.proofs.lay_byte.Tie as tie
+
+cast-is-plain : tie.Need-cast-is-plain
+cast-is-plain c =
+    let a = c .before .before .before .before .before .args in
+    omega (arith, begun-within 52 (a .device) (a .f .now) (a .got) (sym (c .before .before .begins .ensures) ∙ c .before .if1 .taken))
 
 is-plain-requires : tie.Need-is-plain-requires
 is-plain-requires c κs =
@@ -17,7 +23,7 @@ slice-write-f c =
     let a = c .before .before .before .before .before .before .before .args in
     let t = sym (c .before .before .before .before .begins .ensures) ∙ c .before .before .before .if1 .taken in
     let l : length (a .f .now) ≡ 64 = part-length 52 (a .device) (a .f .now) (a .got) t in
-    let g : a .got < 64 = plain-within 52 (a .device) (a .f .now) (a .got) t (sym (c .before .is-plain .ensures) ∙ c .if2 .taken) in
+    let g : a .got < 64 = begun-within 52 (a .device) (a .f .now) (a .got) t in
     rw l g
 
 returns : tie.Need-returns
@@ -42,6 +48,7 @@ lay-byte-spec =
     tie.close
     (tie.spec
     (λ c κs. search needs)
+    cast-is-plain
     is-plain-requires
     slice-write-f
     (λ c. search needs)
