@@ -8,6 +8,13 @@ use Rattle.laws.proofs.Bools.{and-both}
 use Rattle.device_state.specs.declared.Setup.{Setup}
 use Rattle.device_state.specs.Refusals.{eraseSizeFits, capacityFits, fits, setUp}
 
+-- an erase size
+pub erase-most : (page erase : ℕ) → eraseSizeFits page erase ≡ true → erase ≤ 32768
+unfolding eraseSizeFits
+erase-most page erase e =
+    let rest : Bool = leb erase 32768 && eqb (erase % page) 0 in
+    leb-true erase 32768 (and-both (leb erase 32768) (eqb (erase % page) 0) (and-both (leb page erase) rest e .1) .0)
+
 -- the id's length, the capacity, and the kind of start
 pub set-up-limits : (page : ℕ) (s : Setup) → setUp page s ≡ true → (s .«id_len» ≤ 16) × (s .capacity ≤ 65536) × (s .«start_kind» ≤ 1)
 unfolding fits capacityFits

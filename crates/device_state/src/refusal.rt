@@ -9,6 +9,7 @@ use wire_frames::frame;
 use wire_frames::frame::FRAME;
 use wire_frames::frame::FrameBytes;
 ghost use mathlib.Core.Path.{_≡_};
+ghost use Prim.Native.Nat.{_≤_};
 ghost use lib.Dec.{eqb};
 ghost use Rattle.device_state.specs.Refusals.{eraseSizeFits, capacityFits, fits, setUp, runFits, wellFormed, refusalNumber, lengthsOf, refusalOf};
 
@@ -46,6 +47,7 @@ impl Refusal {
     }
 }
 
+// Here and below, what is known to be small is divided in 32 bits: a controller has no short way for more.
 fn erase_fits(erase: usize) -> bool
     ensures { λ r. ⌜ r ≡ eraseSizeFits 64 erase ⌝ }
 {
@@ -55,10 +57,12 @@ fn erase_fits(erase: usize) -> bool
     if 32768 < erase {
         return false;
     }
-    erase % PAGE_SIZE == 0
+    erase as u32 % (PAGE_SIZE as u32) == 0
 }
 
+// Of an erase size that fits.
 fn capacity_fits(erase: usize, capacity: usize) -> bool
+    requires { ⌜ erase ≤ 32768 ⌝ }
     ensures { λ r. ⌜ r ≡ capacityFits erase capacity ⌝ }
 {
     if erase == 0 {
@@ -70,7 +74,7 @@ fn capacity_fits(erase: usize, capacity: usize) -> bool
     if 65536 < capacity {
         return false;
     }
-    capacity % erase == 0
+    capacity as u32 % (erase as u32) == 0
 }
 
 // Whether these numbers are a setup's.
@@ -111,7 +115,7 @@ pub fn run_fits(capacity: usize, fill: usize, next: u32) -> bool
     if capacity < next as usize {
         return false;
     }
-    next as usize % PAGE_SIZE == fill
+    next % (PAGE_SIZE as u32) == fill as u32
 }
 
 // Whether a state's frame and numbers are those of a device of this setup.

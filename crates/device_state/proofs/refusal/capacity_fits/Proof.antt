@@ -21,4 +21,4 @@ unfolding capacityFits
 returns-4 c = simp (ne-eqb _ _ (c .before .before .if1 .left), ne-eqb _ _ (c .before .if2 .left), le-leb _ _ (c .if3 .left))
 
 pub capacity-fits-spec : {M : Type 1} → statement M
-capacity-fits-spec = tie.close (tie.spec returns returns-2 returns-3 (λ c. search needs) returns-4)
+capacity-fits-spec = tie.close (tie.spec returns returns-2 returns-3 (λ c. search needs) (λ c. search needs) (λ c. search needs) returns-4)

@@ -1,5 +1,6 @@
 use Rattle.device_state.specs.Refusals.{eraseSizeFits}
 use borrow.Author.Tests.{le-leb, lt-leb}
+use borrow.Author.Needs.{needs}
 use Rattle.device_state.proofs.refusal.erase_fits.Statement.{statement}
 use Rattle.device_state.proofs.refusal.erase_fits.Tie as tie
 
@@ -16,4 +17,4 @@ unfolding eraseSizeFits
 returns-3 c = simp (le-leb _ _ (c .before .if1 .left), le-leb _ _ (c .if2 .left))
 
 pub erase-fits-spec : {M : Type 1} → statement M
-erase-fits-spec = tie.close (tie.spec returns returns-2 returns-3)
+erase-fits-spec = tie.close (tie.spec returns returns-2 (λ c. search needs) (λ c. search needs) (λ c. search needs) returns-3)

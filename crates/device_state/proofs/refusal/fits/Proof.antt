@@ -2,8 +2,12 @@ use mathlib.Core.Path.{sym, _∙_}
 use Rattle.device_state.specs.Refusals.{fits}
 use borrow.Author.Needs.{needs}
 use borrow.Author.Tests.{le-leb, lt-leb}
+use Rattle.device_state.proofs.Limits.{erase-most}
 use Rattle.device_state.proofs.refusal.fits.Statement.{statement}
 use Rattle.device_state.proofs.refusal.fits.Tie as tie
+
+capacity-fits-requires : tie.Need-capacity-fits-requires
+capacity-fits-requires c κs = erase-most 64 _ (sym (c .before .erase-fits .ensures) ∙ c .if1 .taken)
 
 returns : tie.Need-returns
 unfolding fits
@@ -35,4 +39,4 @@ returns-4 c = simp (sym (c .before .erase-fits .ensures) ∙ c .if1 .left)
 
 pub fits-spec : {M : Type 1} → statement M
 fits-spec =
-    tie.close (tie.spec (λ c κs. search needs) (λ c κs. search needs) returns returns-2 returns-3 returns-4)
+    tie.close (tie.spec (λ c κs. search needs) capacity-fits-requires returns returns-2 returns-3 returns-4)
