@@ -9,9 +9,8 @@ use borrow.Author.Tests.{eq-eqb, ne-eqb, lt-ltb, le-ltb}
 use Rattle.laws.specs.Pick.{pick}
 use Rattle.laws.specs.Over.{over}
 use Rattle.laws.proofs.Pick.{yes, no}
-use Rattle.wire_frames.specs.Stored.{wellOf}
 use Rattle.device_state.specs.declared.Setup.{Setup}
-use Rattle.device_state.specs.Refusals.{setUp, runFits, wellFormed, lengthsOf, refusalOf}
+use Rattle.device_state.specs.Refusals.{setUp, lengthsOf}
 use Rattle.device_boot.specs.Start.{Decision, startOf}
 use Rattle.device_start.specs.Starts.{Booted, left, decidedTo, newState, startRefusal, careful, startedOf}
 use Rattle.device_replies.specs.Answers.{mute}
@@ -67,23 +66,16 @@ asked-app m e = yes (eqb m 0) 0 1 (eq-eqb m 0 e)
 pub asked-service : (m : ℕ) → (m ≡ 0 → ⊥) → 1 ≡ Calls.asked m
 asked-service m h = no (eqb m 0) 0 1 (ne-eqb m 0 h)
 
--- with no room a new state is refused as a start is, or for the room
-in-order : (a b c : Bool) → pick (not a) 10 (pick (not b) 12 (pick (not c) 13 14)) ≡ Calls.orNoRoom (pick (not a) 10 (pick (not b) 12 (pick (not c) 13 0)))
-in-order true true true = refl
-in-order true true false = refl
-in-order true false c = refl
-in-order false b c = refl
+-- with no room a good setup's start is refused as it is with room, or for the room
+in-order : (b c : Bool) → pick (not b) 12 (pick (not c) 13 14) ≡ Calls.orNoRoom (pick (not b) 12 (pick (not c) 13 0))
+in-order true true = refl
+in-order true false = refl
+in-order false c = refl
 
-well-new : (s : Setup) (f : List ℕ) → wellFormed 52 64 s f (newState 52 64 false .numbers) ≡ true
-unfolding wellFormed runFits wellOf
-well-new s f = refl
-
-pub roomless-new : (s : Setup) (f : List ℕ) (flash meta : ℕ) →
-    refusalOf 52 64 s f (newState 52 64 false .numbers) flash meta 0 ≡ Calls.orNoRoom (startRefusal 64 s flash meta)
-unfolding refusalOf startRefusal lengthsOf
-roomless-new s f flash meta =
-    let rest : ℕ = pick (not (eqb flash (s .capacity))) 12 (pick (not (eqb meta 12)) 13 14) in
-    ap (λ (v : Bool). pick (not (setUp 64 s)) 10 (pick (not v) 11 rest)) (well-new s f) ∙ in-order (setUp 64 s) (eqb flash (s .capacity)) (eqb meta 12)
+pub roomless : (s : Setup) (flash meta : ℕ) → setUp 64 s ≡ true →
+    lengthsOf 52 (s .capacity) flash meta 0 false ≡ Calls.orNoRoom (startRefusal 64 s flash meta)
+unfolding startRefusal lengthsOf
+roomless s flash meta u = rw u (in-order (eqb flash (s .capacity)) (eqb meta 12))
 
 module _ (mode : ℕ) (s : Setup) (state flash meta answer : List ℕ) where
   abbrev unstarted : ℕ → Calls.AfterStart

@@ -10,21 +10,19 @@ use device_early::outlook_number;
 use device_replies::Said;
 use device_replies::mode_number;
 use device_start::start;
-use device_state::Numbers;
 use device_state::Setup;
 use device_state::refusal::Refusal;
+use device_state::refusal::of_lengths;
 use device_state::refusal::refusal_number;
-use device_state::refusal::refuses;
 use device_state::refusal::set_up;
-use store_flash::storage::NONE_PENDING;
-use wire_frames::frame::FRAME;
 use wire_numbers::RunMode;
 ghost use mathlib.Core.Path.{_≡_};
+ghost use mathlib.Core.Bool.{true};
 ghost use Prim.Native.Nat.{_≤_};
 ghost use lib.ListN.{length};
 ghost use Rattle.wire_numbers.specs.Names.{modeNumber};
 ghost use Rattle.laws.specs.Over.{over};
-ghost use Rattle.device_state.specs.Refusals.{refusalNumber};
+ghost use Rattle.device_state.specs.Refusals.{setUp, refusalNumber};
 ghost use Rattle.device_early.specs.Early.{earlyOf};
 ghost use Rattle.c_layout.specs.Layout.{stateSize, answerSize, stateBytes, answerBytes};
 ghost use Rattle.device_start.specs.Starts.{newState, startRefusal, startedOf};
@@ -66,19 +64,12 @@ pub fn early_in(mode: u8, setup: Setup, meta: &[u8]) -> u8
     outlook_number(early(setup, mode_of(mode), meta))
 }
 
-// With no room for an answer: what a feed with no room for a reply says of a new state.
+// With no room for an answer, of a good setup: what else refuses a start, or that there is no room.
 fn unanswered(setup: Setup, flash: usize, meta: usize) -> u8
+    requires { ⌜ setUp 64 setup ≡ true ⌝ }
     ensures { λ r. ⌜ r ≡ orNoRoom (startRefusal 64 setup flash meta) ⌝ }
 {
-    let f = [0u8; FRAME];
-    let n = Numbers {
-        got: 0,
-        fill: 0,
-        next: NONE_PENDING,
-        selected: false,
-        closed: false,
-    };
-    refusal_number(refuses(setup, &f, n, flash, meta, 0))
+    refusal_number(of_lengths(setup.capacity, flash, meta, 0, false))
 }
 
 // A start's answer has no reply.

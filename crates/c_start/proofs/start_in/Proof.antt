@@ -34,6 +34,9 @@ returns-2 c =
     rw (e .0, e .1, at-refuse .before .refusal-number2 .ensures)
     (start-no-state (a .mode) (a .setup) (a .state .now) (a .flash .now) (a .meta .now) (a .answer .now) (set (at-if2 .before)) (at-if2 .if2 .taken))
 
+unanswered-requires : tie.Need-unanswered-requires
+unanswered-requires c κs = set (c .before .before)
+
 returns-3 : tie.Need-returns-3
 returns-3 c =
     let at-if2 = c .before .before in
@@ -63,7 +66,7 @@ start-in-spec =
     (λ c κs. search needs)
     (λ c. search needs)
     returns-2
-    (λ c κs. search needs)
+    unanswered-requires
     returns-3
     (λ c κs. search needs)
     (λ c. search needs)
