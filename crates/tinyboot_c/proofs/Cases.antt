@@ -1,30 +1,42 @@
 -- The cases of the calls.
 use Prim.Native.Nat.{ℕ, _<_, _≤_}
 use mathlib.Core.Path.{_≡_, refl, ap, _∙_}
-use mathlib.Core.Bool.{Bool, true, false}
-use mathlib.Core.List.{List}
-use lib.ListN.{length, getD}
-use lib.Dec.{eqb}
-use borrow.Author.Tests.{lt-ltb, le-ltb}
-use Rattle.laws.specs.Over.{over}
+use mathlib.Core.Bool.{Bool, true, false, not}
+use mathlib.Core.List.{List, [], _++_, append-nil}
+use native.Mathlib.Omega.{arith}
+use lib.ListN.{length, getD, take, drop, drop-of-length-le}
+use lib.Seq.{take-length}
+use lib.Dec.{eqb, ltb}
+use Rattle.laws.specs.Pick.{pick}
 use Rattle.device_state.specs.declared.Setup.{Setup}
 use Rattle.device_state.specs.declared.Numbers.{Numbers}
-use Rattle.device_state.specs.Refusals.{setUp, refusalOf}
-use Rattle.device_replies.specs.Answers.{mute}
+use Rattle.device_state.specs.Refusals.{setUp, wellFormed, lengthsOf, refusalOf}
 use Rattle.device_feed.specs.Feed.{refusalFor, fedOf}
-use Rattle.c_layout.specs.Layout.{setupFrom, holdsState, stateFrom, answerBytes}
+use Rattle.c_layout.specs.Layout.{setupFrom, holdsState, stateFrom}
 use Rattle.c_start.specs.Start.{AfterStart, startRefused, startIn}
 use Rattle.c_app.specs.App.{appSetupFrom}
 use Rattle.c_app.specs.Calls.{AfterApp, appRefused, appFedIn}
 use Rattle.tinyboot_c.specs.Calls
 use Rattle.tinyboot_c.specs.Inner.{stateless}
-use Rattle.c_layout.proofs.Answering.{answer-short, answer-laid}
+use Rattle.tinyboot_c.proofs.Placing.{laid}
 use Rattle.tinyboot_c.proofs.Round.{refused-kept}
 
 -- the setup's numbers are the first that the feed tries, too
 ten : (cap page : ℕ) (s : Setup) (f : List ℕ) (n : Numbers) (flash meta room : ℕ) → setUp page s ≡ false → refusalOf cap page s f n flash meta room ≡ 10
 unfolding refusalOf
 ten cap page s f n flash meta room u = simp u
+
+-- with no room for a reply a feed refuses
+roomless-refuses : (s : Setup) (f : List ℕ) (n : Numbers) (flash meta : ℕ) → eqb (refusalOf 52 64 s f n flash meta 0) 0 ≡ false
+unfolding refusalOf lengthsOf
+roomless-refuses s f n flash meta = go (setUp 64 s) (wellFormed 52 64 s f n) (eqb flash (s .capacity)) (eqb meta 12)
+  where
+    go : (a b c d : Bool) → eqb (pick (not a) 10 (pick (not b) 11 (pick (not c) 12 (pick (not d) 13 14)))) 0 ≡ false
+    go false b c d = refl
+    go true false c d = refl
+    go true true false d = refl
+    go true true true false = refl
+    go true true true true = refl
 
 -- a feed, case by case
 module _ (setup state bytes flash meta reply answer : List ℕ) where
@@ -54,35 +66,62 @@ module _ (setup state bytes flash meta reply answer : List ℕ) where
         go true u = simp (h, u, k)
         go false u = simp (h, u)
 
-    module _ (k : holdsState 52 64 state ≡ true) where
-      pub feed-short : (q : length answer < 16) → (r : ℕ) → r ≡ Calls.roomless 52 64 (setupFrom setup) (stateFrom 52 64 state) (length flash) (length meta) →
-          Calls.afterFeed r state flash meta reply answer ≡ whole
-      unfolding Calls.cFed
-      feed-short q r e = go up refl
-        where
-          left : (number : ℕ) → r ≡ number → Calls.afterFeed r state flash meta reply answer ≡ kept number
-          left number z =
-              ap (λ (v : ℕ). Calls.afterFeed v state flash meta reply answer) z ∙
-              ap (λ (v : List ℕ). Calls.afterFeed number state flash meta reply v) (answer-short (mute number) 0 answer q)
+    module _ (k : holdsState 52 64 state ≡ true) (byte : (i : ℕ) → i < length state → getD state i 0 < 256) where
+      -- what the call with this room for a reply leaves
+      abbrev left : List ℕ → Calls.AfterFeed
+      left room = laid (fedOf 52 64 (setupFrom setup) (Calls.worldFrom 52 64 state flash meta) bytes room) answer
 
-          go : (t : Bool) → up ≡ t → Calls.afterFeed r state flash meta reply answer ≡ whole
-          go true u = left _ e ∙ (simp (h, u, k, lt-ltb (length answer) 16 q))
-          go false u = left 10 (e ∙ ten 52 64 (setupFrom setup) _ _ (length flash) (length meta) 0 u) ∙ feed-unset u
+      refused : (room : List ℕ) (number : ℕ) → refusalFor 52 64 (setupFrom setup) (Calls.worldFrom 52 64 state flash meta) room ≡ number →
+          eqb number 0 ≡ false → left room ≡ Calls.feedRefused number state flash meta room answer
+      refused room number z e =
+          refused-kept setup state bytes flash meta room answer k byte (ap (λ (v : ℕ). eqb v 0) z ∙ e) ∙
+          ap (λ (v : ℕ). Calls.feedRefused v state flash meta room answer) z
 
-      pub feed-called : ((i : ℕ) → i < length state → getD state i 0 < 256) → 16 ≤ length answer → (x : Calls.AfterFeed) →
-          x ≡ Calls.feedCalled (fedOf 52 64 (setupFrom setup) (Calls.worldFrom 52 64 state flash meta) bytes reply) answer → x ≡ whole
+      whole-room : ltb (length answer) 16 ≡ false → left reply ≡ whole
       unfolding Calls.cFed
-      feed-called byte q x e = go up refl
+      whole-room b = go up refl
         where
-          go : (t : Bool) → up ≡ t → x ≡ whole
-          go true u = e ∙ (simp (h, u, k, le-ltb (length answer) 16 q))
-          go false u =
-              let z : refusalFor 52 64 (setupFrom setup) (Calls.worldFrom 52 64 state flash meta) reply ≡ 10 =
-              ten 52 64 (setupFrom setup) _ _ (length flash) (length meta) (length reply) u in
-              e ∙ refused-kept setup state bytes flash meta reply answer k byte (ap (λ (v : ℕ). eqb v 0) z) ∙
-              ap (λ (v : ℕ). Calls.afterFeed v state flash meta reply (over (answerBytes (mute v) 0) answer)) z ∙
-              ap (λ (v : List ℕ). Calls.afterFeed 10 state flash meta reply v) (answer-laid (mute 10) 0 answer q) ∙
-              feed-unset u
+          go : (t : Bool) → up ≡ t → left reply ≡ whole
+          go true u = simp (h, u, k, b)
+          go false u = refused reply 10 (ten 52 64 (setupFrom setup) _ _ (length flash) (length meta) (length reply) u) refl ∙ feed-unset u
+
+      -- the reply's room, none of which was lent, stands behind what was
+      abbrev behind : Calls.AfterFeed → Calls.AfterFeed
+      behind x = Calls.afterFeed (x .result) (x .state) (x .flash) (x .meta) (x .reply ++ reply) (x .answer)
+
+      no-room : ltb (length answer) 16 ≡ true → behind (left []) ≡ whole
+      unfolding Calls.cFed
+      no-room b = ap behind (refused [] _ refl (roomless-refuses (setupFrom setup) _ _ (length flash) (length meta))) ∙ go up refl
+        where
+          number : ℕ
+          number = Calls.roomless 52 64 (setupFrom setup) (stateFrom 52 64 state) (length flash) (length meta)
+
+          go : (t : Bool) → up ≡ t → kept number ≡ whole
+          go true u = simp (h, u, k, b)
+          go false u = ap kept (ten 52 64 (setupFrom setup) _ _ (length flash) (length meta) 0 u) ∙ feed-unset u
+
+      pub feed-called : (room : ℕ) → room ≡ pick (ltb (length answer) 16) 0 (length reply) → (r : ℕ) (s f m p a : List ℕ) →
+          Calls.afterFeed r s f m p a ≡ left (take room reply) → Calls.afterFeed r s f m (p ++ drop room reply) a ≡ whole
+      feed-called room er r s f m p a e = go (ltb (length answer) 16) refl
+        where
+          go : (t : Bool) → ltb (length answer) 16 ≡ t → Calls.afterFeed r s f m (p ++ drop room reply) a ≡ whole
+          go true b =
+              let z : room ≡ 0 = er ∙ ap (λ (t : Bool). pick t 0 (length reply)) b in
+              ap (λ (n : ℕ). Calls.afterFeed r s f m (p ++ drop n reply) a) z ∙ ap behind (e ∙ ap (λ (n : ℕ). left (take n reply)) z) ∙ no-room b
+          go false b =
+              let z : room ≡ length reply = er ∙ ap (λ (t : Bool). pick t 0 (length reply)) b in
+              let within : length reply ≤ room = omega arith in
+              let none : drop room reply ≡ [] = drop-of-length-le reply within in
+              ap (λ (v : List ℕ). Calls.afterFeed r s f m v a) (ap (λ (v : List ℕ). p ++ v) none ∙ append-nil p) ∙
+              e ∙ ap left (ap (λ (n : ℕ). take n reply) z ∙ take-length reply) ∙ whole-room b
+
+-- the room that is lent lies in the room there is
+pub room-within : (room reply answer : ℕ) → room ≡ pick (ltb answer 16) 0 reply → room ≤ reply
+room-within room reply answer e = rw e (go (ltb answer 16))
+  where
+    go : (t : Bool) → pick t 0 reply ≤ reply
+    go true = omega arith
+    go false = omega arith
 
 -- a start: of a setup, or of none
 module _ (mode : ℕ) (setup state flash meta answer : List ℕ) where

@@ -5,14 +5,13 @@ use mathlib.Core.List.{List, _++_, append-nil, append-assoc}
 use native.Mathlib.Omega.{arith}
 use lib.ListN.{length, length-append, length-drop, drop-of-length-le}
 use lib.Seq.{paste}
-use Rattle.laws.specs.Over.{over}
 use Rattle.device_replies.specs.Answers.{Told, toldOf}
 use Rattle.device_feed.specs.declared.Passed.{Passed}
 use Rattle.device_feed.specs.Feed.{Called}
 use Rattle.device_in_place.specs.On.{restIn, CalledOn, onBy}
 use Rattle.device_in_place.specs.Inner.{calledOn}
 use Rattle.device_replies.specs.declared.Said.{Said}
-use Rattle.c_layout.specs.Layout.{numberBytes, partBytes, answerBytes}
+use Rattle.c_layout.specs.Layout.{numberBytes, partBytes, stateBytes, answered}
 use Rattle.tinyboot_c.specs.Calls
 use Rattle.device_replies.specs.Inner.{toldBy}
 use Rattle.tinyboot_c.proofs.Laying.{laid-next}
@@ -33,25 +32,30 @@ placed f p r n l lr ln =
 rest-size : (s : List ℕ) → length s ≡ 136 → length (restIn 52 64 s) ≡ 8
 rest-size s l = simp (length-drop) (omega arith)
 
+-- what a call left, in the buffers: its answer where there is room for one
+abbrev pub laid : Called → List ℕ → Calls.AfterFeed
+laid x answer =
+    Calls.afterFeed (x .told .number) (stateBytes (x .left .state)) (x .left .flash) (x .left .meta) (x .room) (answered (x .told) (x .taken) answer)
+
 module _ (answer : List ℕ) where
   abbrev left : CalledOn → Calls.AfterFeed
   left y =
       Calls.afterFeed (y .told .number) (paste (y .bytes) 128 (numberBytes (y .numbers)) 8) (y .flash) (y .meta) (y .room)
-      (over (answerBytes (y .told) (y .taken)) answer)
+      (answered (y .told) (y .taken) answer)
 
   -- s is the state's bytes before the call, t after it; u those with their numbers
   pub fed-placed : (p : Passed) (s t flash meta reply : List ℕ) (x : Called) → length s ≡ 136 → length t ≡ 136 →
       calledOn p t flash meta reply ≡ onBy (restIn 52 64 s) x →
       (said : Said) → toldBy said ≡ toldOf (p .answer) → (r : ℕ) → r ≡ said .number →
       (u : List ℕ) → u ≡ paste t 128 (numberBytes (p .numbers)) 8 →
-      (a : List ℕ) → a ≡ over (answerBytes (toldBy said) (p .taken)) answer →
-      Calls.afterFeed r u flash meta reply a ≡ Calls.feedCalled x answer
+      (a : List ℕ) → a ≡ answered (toldBy said) (p .taken) answer →
+      Calls.afterFeed r u flash meta reply a ≡ laid x answer
   fed-placed p s t flash meta reply x ls lt e said k r kr u ku a ka =
       let n : r ≡ toldOf (p .answer) .number = kr ∙ ap (λ (v : Told). v .number) k in
-      let ra : a ≡ over (answerBytes (toldOf (p .answer)) (p .taken)) answer = ka ∙ ap (λ (v : Told). over (answerBytes v (p .taken)) answer) k in
+      let ra : a ≡ answered (toldOf (p .answer)) (p .taken) answer = ka ∙ ap (λ (v : Told). answered v (p .taken) answer) k in
       let lx : length (x .left .state .frame ++ (x .left .state .page ++ restIn 52 64 s)) ≡ 136 = ap (λ (v : CalledOn). length (v .bytes)) (sym e) ∙ lt in
       let nx : List ℕ = numberBytes (x .left .state .numbers) in
       let ln : length nx ≡ 8 = refl in
       rw (n, ku, ra) refl ∙ ap left e ∙
-      ap (λ (v : List ℕ). Calls.afterFeed (x .told .number) v (x .left .flash) (x .left .meta) (x .room) (over (answerBytes (x .told) (x .taken)) answer))
+      ap (λ (v : List ℕ). Calls.afterFeed (x .told .number) v (x .left .flash) (x .left .meta) (x .room) (answered (x .told) (x .taken) answer))
       (placed (x .left .state .frame) (x .left .state .page) (restIn 52 64 s) nx lx (rest-size s ls) ln)

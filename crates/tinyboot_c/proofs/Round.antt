@@ -11,7 +11,6 @@ use lib.Seq.{take-at, drop-at, drop-drop, getD-drop, getD-take, take-all, length
 use lib.Dec.{eqb, ltb, leb}
 use borrow.Author.Tests.{ltb-true, leb-true}
 use Rattle.laws.specs.Pick.{pick}
-use Rattle.laws.specs.Over.{over}
 use Rattle.laws.specs.Low.{lowFirst, lowBytes}
 use Rattle.laws.proofs.Low.{low-read, low-write}
 use Rattle.laws.proofs.Bools.{and-both, or-either}
@@ -25,12 +24,12 @@ use Rattle.device_state.specs.declared.Setup.{Setup}
 use Rattle.device_state.specs.declared.Numbers.{Numbers}
 use Rattle.device_state.specs.declared.State.{State}
 use Rattle.device_state.specs.Refusals.{runFits, wellFormed}
-use Rattle.device_replies.specs.Answers.{mute}
 use Rattle.device_state.specs.State.{World, stateWith, numbered}
 use Rattle.device_feed.specs.Feed.{Called, refusalFor, refusedBy, takenOf, fedOf}
-use Rattle.c_layout.specs.Layout.{part, setupFrom, holdsState, numbersFrom, stateFrom, flagByte, numberBytes, partBytes, stateBytes, answerBytes}
-use Rattle.tinyboot_c.specs.Calls.{afterFeed, feedCalled, worldFrom}
+use Rattle.c_layout.specs.Layout.{part, setupFrom, holdsState, numbersFrom, stateFrom, flagByte, numberBytes, partBytes, stateBytes}
+use Rattle.tinyboot_c.specs.Calls.{feedRefused, worldFrom}
 use Rattle.tinyboot_c.proofs.Copies.{part-four}
+use Rattle.tinyboot_c.proofs.Placing.{laid}
 use Rattle.c_layout.proofs.Holding.{holds-size, holds-flags}
 use Rattle.c_layout.proofs.Flags.{flag-read, flag-write}
 
@@ -183,10 +182,9 @@ module _ (setup state bytes flash meta reply answer : List ℕ) where
   number = refusalFor 52 64 (setupFrom setup) w reply
 
   pub refused-kept : holdsState 52 64 state ≡ true → ((i : ℕ) → i < length state → getD state i 0 < 256) → eqb number 0 ≡ false →
-      feedCalled (fedOf 52 64 (setupFrom setup) w bytes reply) answer ≡ afterFeed number state flash meta reply (over (answerBytes (mute number) 0) answer)
+      laid (fedOf 52 64 (setupFrom setup) w bytes reply) answer ≡ feedRefused number state flash meta reply answer
   unfolding fedOf
   refused-kept h byte e =
       let x : Called = takenOf 52 64 (setupFrom setup) w bytes reply in
       let y : Called = refusedBy number w reply in
-      ap (λ (t : Bool). feedCalled (pick t x y) answer) e ∙
-      ap (λ (v : List ℕ). afterFeed number v flash meta reply (over (answerBytes (mute number) 0) answer)) (read-written state h byte)
+      ap (λ (t : Bool). laid (pick t x y) answer) e ∙ ap (λ (v : List ℕ). feedRefused number v flash meta reply answer) (read-written state h byte)

@@ -6,8 +6,10 @@ use mathlib.Core.List.{List, [], _∷_, _++_, append-assoc}
 use native.Mathlib.Nat.{mod-eq-of-lt}
 use native.Mathlib.Omega.{arith}
 use lib.ListN.{length, getD, take, drop, set, length-append, length-set, length-drop}
+use lib.Dec.{ltb}
 use lib.Seq.{set-at, set-append-left, take-at, drop-at, length-take-le}
 use Rattle.laws.specs.Low.{lowFirst, lowBytes}
+use Rattle.laws.specs.Pick.{pick}
 use Rattle.laws.specs.Over.{over}
 use Rattle.device_state.specs.declared.Numbers.{Numbers}
 use Rattle.device_replies.specs.Answers.{Told, mute}
@@ -16,12 +18,13 @@ use Rattle.device_feed.specs.Feed.{Called}
 use Rattle.device_in_place.specs.On.{frameIn, pageIn}
 use Rattle.device_in_place.specs.Byte.{laidTo, byteOn}
 use Rattle.device_in_place.proofs.Quick.{byte-laid, byte-within, byte-fed}
-use Rattle.c_layout.specs.Layout.{part, setupFrom, holdsState, numbersFrom, flagByte, numberBytes, partBytes, stateBytes, answerBytes}
+use Rattle.c_layout.specs.Layout.{part, setupFrom, holdsState, numbersFrom, flagByte, numberBytes, partBytes, stateBytes, answerBytes, answered}
 use Rattle.tinyboot_c.specs.Calls.{AfterFeed, afterFeed, feedCalled}
 use Rattle.device_replies.specs.Inner.{toldBy}
 use Rattle.tinyboot_c.specs.Inner.{ByteFed}
 use Rattle.device_replies.specs.declared.Said.{Said}
 use Rattle.c_layout.proofs.Holding.{holds-size}
+use Rattle.tinyboot_c.proofs.Placing.{laid}
 use Rattle.tinyboot_c.proofs.Round.{read-written}
 
 -- in three parts: the byte at g of the first, and the count in the last
@@ -64,13 +67,14 @@ pub byte-known : (setup state : List ℕ) (b flash meta room : ℕ) (r : Bool) (
     OnByte setup state b flash meta room after t
 byte-known setup state b flash meta room r after erase capacity idLen kind n e ke kc ki kk kn t w = rw (w, ke, kc, ki, kk, kn) at e
 
--- the answer to it
-pub byte-answered : (said : Said) → toldBy said ≡ mute 0 → (result : ℕ) → result ≡ said .number → (state f m r answer laid : List ℕ) →
-    laid ≡ over (answerBytes (toldBy said) 1) answer → (x : AfterFeed) → afterFeed 0 state f m r (over (answerBytes (mute 0) 1) answer) ≡ x →
-    afterFeed result state f m r laid ≡ x
-byte-answered said k result kr state f m r answer laid kl x e =
+-- the answer to it, where there is room for one
+pub byte-answered : (said : Said) → toldBy said ≡ mute 0 → (result : ℕ) → result ≡ said .number → (state f m r answer a : List ℕ) →
+    a ≡ answered (toldBy said) 1 answer → (x : Called) → afterFeed 0 state f m r (over (answerBytes (mute 0) 1) answer) ≡ feedCalled x answer →
+    afterFeed result state f m r a ≡ laid x answer
+byte-answered said k result kr state f m r answer a ka x e =
     let z : result ≡ 0 = kr ∙ ap (λ (v : Told). v .number) k in
-    rw (z, kl, k) e
+    let b : Bool = ltb (length answer) 16 in
+    rw (z, ka, k) (ap (λ (y : AfterFeed). afterFeed (y .result) (y .state) (y .flash) (y .meta) (y .reply) (pick b answer (y .answer))) e)
 
 module _ (setup state : List ℕ) (h : holdsState 52 64 state ≡ true) (byte : (i : ℕ) → i < length state → getD state i 0 < 256) (b flash meta room : ℕ)
     (after : List ℕ)
@@ -109,15 +113,15 @@ module _ (setup state : List ℕ) (h : holdsState 52 64 state ≡ true) (byte : 
   whole : state ≡ partBytes f p (numberBytes n)
   whole = sym (read-written state h byte)
 
-  laid : after ≡ partBytes (set f got b) p (numberBytes n)
-  laid = laid-in ∙ ap (λ (v : List ℕ). set v got b) whole ∙ stored f p lf lp n got b within
+  parted : after ≡ partBytes (set f got b) p (numberBytes n)
+  parted = laid-in ∙ ap (λ (v : List ℕ). set v got b) whole ∙ stored f p lf lp n got b within
 
   frame-after : part 0 64 after ≡ set f got b
-  frame-after = ap (take 64) laid ∙ take-at (set f got b) (p ++ numberBytes n) 64 (length-set f got b ∙ lf)
+  frame-after = ap (take 64) parted ∙ take-at (set f got b) (p ++ numberBytes n) 64 (length-set f got b ∙ lf)
 
   page-after : part 64 64 after ≡ p
   page-after =
-      ap (λ (v : List ℕ). take 64 (drop 64 v)) laid ∙ ap (take 64) (drop-at (set f got b) (p ++ numberBytes n) 64 (length-set f got b ∙ lf)) ∙
+      ap (λ (v : List ℕ). take 64 (drop 64 v)) parted ∙ ap (take 64) (drop-at (set f got b) (p ++ numberBytes n) 64 (length-set f got b ∙ lf)) ∙
       take-at p (numberBytes n) 64 lp
 
   written : set after 132 (got + 1) ≡ stateBytes (stateWith (frameIn 52 after) (pageIn 52 64 after) (gotSet (got + 1) n))

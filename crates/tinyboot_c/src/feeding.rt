@@ -2,9 +2,9 @@
 use crate::layout::four;
 use crate::layout::setup_from;
 use crate::layout::wide;
-use crate::state::fetch;
 use crate::state::lay_numbers;
 use crate::state::numbers_from;
+use c_layout::ANSWER_SIZE;
 use c_layout::GOT;
 use c_layout::lay_answer;
 use device_in_place::byte_on;
@@ -14,15 +14,14 @@ use device_replies::unsaid;
 use device_state::Setup;
 use device_state::refusal::Refusal;
 use device_state::refusal::refusal_number;
-use device_state::refusal::refuses;
 use device_state::refusal::set_up;
-use wire_frames::frame::FRAME;
 ghost use mathlib.Core.Path.{_≡_};
-ghost use Prim.Native.Nat.{_≤_};
 ghost use lib.ListN.{length};
+ghost use lib.Dec.{ltb};
+ghost use Rattle.laws.specs.Pick.{if_then_else_};
 ghost use Rattle.device_feed.specs.Feed.{fedOf};
-ghost use Rattle.c_layout.specs.Layout.{setupFrom, holdsState, stateFrom};
-ghost use Rattle.tinyboot_c.specs.Calls.{roomless, worldFrom, afterFeed, feedCalled};
+ghost use Rattle.c_layout.specs.Layout.{answerSize, setupFrom, holdsState, stateBytes, answered};
+ghost use Rattle.tinyboot_c.specs.Calls.{worldFrom, afterFeed};
 ghost use Rattle.tinyboot_c.specs.Inner.{ByteFed, stateless};
 ghost use mathlib.Core.Bool.{true};
 
@@ -37,15 +36,14 @@ pub(crate) fn stateless(setup: &[u8]) -> u8
     refusal_number(Refusal::BadSetup)
 }
 
-// With no room for an answer: as if there were none for a reply.
-pub(crate) fn unanswered(setup: Setup, state: &[u8], flash: usize, meta: usize) -> u8
-    requires { ⌜ length (now state) ≡ 136 ⌝ }
-    ensures { λ r. ⌜ r ≡ roomless 52 64 setup (stateFrom 52 64 (now (state .entry))) flash meta ⌝ }
+// How much of the room for a reply is lent on: with none for an answer there is none.
+pub(crate) fn room_for(reply: usize, answer: usize) -> usize
+    ensures { λ r. ⌜ r ≡ (if ltb answer answerSize then 0 else reply) ⌝ }
 {
-    let mut f = [0u8; FRAME];
-    fetch(state, 0, &mut f);
-    let n = numbers_from(state);
-    refusal_number(refuses(setup, &f, n, flash, meta, 0))
+    if answer < ANSWER_SIZE {
+        return 0;
+    }
+    reply
 }
 
 // A piece of one byte that is only stored, and whether it is: with most bytes there is nothing else to do.
@@ -98,10 +96,11 @@ fn fed_piece(
     answer: &mut [u8],
 ) -> u8
     requires { ⌜ length (now state) ≡ 136 ⌝ }
-    requires { ⌜ 16 ≤ length (now answer) ⌝ }
-    ensures { λ r. ⌜ afterFeed r (now (state .exit)) (now (flash .exit)) (now (meta .exit)) (now (reply .exit)) (now (answer .exit)) ≡
-        feedCalled (fedOf 52 64 setup (worldFrom 52 64 (now (state .entry)) (now (flash .entry)) (now (meta .entry))) (now (bytes .entry))
-        (now (reply .entry))) (now (answer .entry)) ⌝ }
+    ensures { λ r. ⌜ (let x = fedOf 52 64 setup (worldFrom 52 64 (now (state .entry)) (now (flash .entry)) (now (meta .entry)))
+        (now (bytes .entry)) (now (reply .entry)) in
+        afterFeed r (now (state .exit)) (now (flash .exit)) (now (meta .exit)) (now (reply .exit)) (now (answer .exit)) ≡
+        afterFeed (x .told .number) (stateBytes (x .left .state)) (x .left .flash) (x .left .meta) (x .room)
+        (answered (x .told) (x .taken) (now (answer .entry)))) ⌝ }
 {
     let n = numbers_from(state);
     let p = feed_on(setup, n, state, bytes, flash, meta, reply);
@@ -122,10 +121,11 @@ pub(crate) fn fed(
 ) -> u8
     requires { ⌜ length (now setup) ≡ 32 ⌝ }
     requires { ⌜ holdsState 52 64 (now state) ≡ true ⌝ }
-    requires { ⌜ 16 ≤ length (now answer) ⌝ }
-    ensures { λ r. ⌜ afterFeed r (now (state .exit)) (now (flash .exit)) (now (meta .exit)) (now (reply .exit)) (now (answer .exit)) ≡
-        feedCalled (fedOf 52 64 (setupFrom (now (setup .entry))) (worldFrom 52 64 (now (state .entry)) (now (flash .entry)) (now (meta .entry)))
-        (now (bytes .entry)) (now (reply .entry))) (now (answer .entry)) ⌝ }
+    ensures { λ r. ⌜ (let x = fedOf 52 64 (setupFrom (now (setup .entry))) (worldFrom 52 64 (now (state .entry)) (now (flash .entry)) (now (meta .entry)))
+        (now (bytes .entry)) (now (reply .entry)) in
+        afterFeed r (now (state .exit)) (now (flash .exit)) (now (meta .exit)) (now (reply .exit)) (now (answer .exit)) ≡
+        afterFeed (x .told .number) (stateBytes (x .left .state)) (x .left .flash) (x .left .meta) (x .room)
+        (answered (x .told) (x .taken) (now (answer .entry)))) ⌝ }
 {
     if fed_byte(setup, state, bytes, flash.len(), meta.len(), reply.len()) {
         return lay_answer(answer, unsaid(0), 1);

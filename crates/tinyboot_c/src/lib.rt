@@ -12,7 +12,6 @@ use c_app::confirm_in;
 use c_app::holds_app_setup;
 use c_app::position_in;
 use c_app::set_baud_in;
-use c_layout::ANSWER_SIZE;
 use c_layout::STATE_SIZE;
 use c_layout::holds_setup;
 use c_layout::holds_state;
@@ -84,11 +83,8 @@ pub extern "C" fn tinyboot_feed(
         return refuse(answer, 10);
     }
     if holds_state(state) {
-        if answer.len() < ANSWER_SIZE {
-            let s = setup_from(setup);
-            return feeding::unanswered(s, state, flash.len(), meta.len());
-        }
-        return feeding::fed(setup, state, bytes, flash, meta, reply, answer);
+        let room = feeding::room_for(reply.len(), answer.len());
+        return feeding::fed(setup, state, bytes, flash, meta, &mut reply[..room], answer);
     }
     refuse(answer, feeding::stateless(setup))
 }

@@ -9,26 +9,10 @@ use c_layout::NEXT;
 use c_layout::SELECTED;
 use c_layout::number_bytes;
 use device_state::Numbers;
-use wire_frames::frame::FRAME;
-use wire_frames::frame::FrameBytes;
 ghost use mathlib.Core.Path.{_≡_};
-ghost use Prim.Native.Nat.{_≤_, _+_};
 ghost use lib.ListN.{length};
 ghost use lib.Seq.{paste};
-ghost use Rattle.c_layout.specs.Layout.{part, numberBytes, numbersFrom};
-
-// The 64 bytes from a place on.
-pub(crate) fn fetch(s: &[u8], at: usize, a: &mut FrameBytes)
-    requires { ⌜ at + 64 ≤ length (now s) ⌝ }
-    requires { ⌜ length (now a) ≡ 64 ⌝ }
-    ensures { λ r. ⌜ now (a .exit) ≡ part at 64 (now (s .entry)) ⌝ }
-{
-    let mut i: usize = 0;
-    while i < FRAME {
-        a[i] = s[at + i];
-        i += 1;
-    }
-}
+ghost use Rattle.c_layout.specs.Layout.{numberBytes, numbersFrom};
 
 pub(crate) fn numbers_from(s: &[u8]) -> Numbers
     requires { ⌜ length (now s) ≡ 136 ⌝ }

@@ -5,7 +5,6 @@ use lib.ListN.{length}
 use Rattle.device_in_place.proofs.Placed.{on-long}
 use Rattle.device_feed.specs.Feed.{Called, fedOf}
 use Rattle.tinyboot_c.specs.Calls.{worldFrom}
-use Rattle.c_layout.proofs.Answering.{answer-laid}
 use Rattle.tinyboot_c.proofs.Placing.{fed-placed}
 use borrow.Author.Needs.{needs}
 use Rattle.tinyboot_c.proofs.feeding.fed_piece.Statement.{statement}
@@ -23,7 +22,7 @@ returns c =
     let at-entry = at-numbers-from .before .before .before .before .before .before .before .before in
     let a = at-entry .args in
     let p = at-feed-on .feed-on .result in
-    let ls : length (a .state .now) ≡ 136 = at-entry .pre .0 in
+    let ls : length (a .state .now) ≡ 136 = at-entry .pre in
     let h : 128 ≤ length (a .state .now) = omega arith in
     let e = rw (at-numbers-from .numbers-from .ensures) at (at-feed-on .feed-on .ensures) in
     let x : Called = fedOf 52 64 (a .setup) (worldFrom 52 64 (a .state .now) (a .flash .now) (a .meta .now)) (a .bytes .now) (a .reply .now) in
@@ -31,8 +30,7 @@ returns c =
     let v = c .before .before .lay-answer .ensures in
     fed-placed (a .answer .now) p (a .state .now) _ _ _ _ x ls (lay-numbers-requires at-passed (at-lay-numbers .lay-numbers .lifetimes))
     (e ∙ sym (on-long _ _ _ _ _ _ _ h))
-    _ u _ (v .0) _ (at-lay-numbers .lay-numbers .ensures) _
-    (v .1 ∙ sym (answer-laid _ _ (a .answer .now) (at-entry .pre .1)))
+    _ u _ (v .0) _ (at-lay-numbers .lay-numbers .ensures) _ (v .1)
 
 pub fed-piece-spec : {M : Type 1} → statement M
 fed-piece-spec =
