@@ -132,14 +132,15 @@ fn pass(
     let p = read(s, n.got, bytes);
     let stop = p.stop;
     let m = begun(n, p.got);
-    if is_going(stop) {
-        return Passed {
-            numbers: m,
-            taken: p.taken,
-            answer: Answer::Quiet,
-        };
+    let mut r = Passed {
+        numbers: m,
+        taken: p.taken,
+        answer: Answer::Quiet,
+    };
+    if !is_going(stop) {
+        r = ended(setup, kind_of(stop), p.taken, m, s, flash, meta, reply);
     }
-    ended(setup, kind_of(stop), p.taken, m, s, flash, meta, reply)
+    r
 }
 
 // Whether the slice, and what stands beside it, holds a well-formed state.
@@ -183,14 +184,15 @@ pub fn feed_on(
         fedOn 52 64 setup (now (s .entry)) n (now (bytes .entry)) (now (flash .entry)) (now (meta .entry)) (now (reply .entry)) ⌝ }
 {
     let refusal = refusal_of(setup, s, n, flash.len(), meta.len(), reply.len());
-    if refusal.is_none() {
-        return pass(setup, n, s, bytes, flash, meta, reply);
-    }
-    Passed {
+    let mut r = Passed {
         numbers: n,
         taken: 0,
         answer: refused(refusal),
+    };
+    if refusal.is_none() {
+        r = pass(setup, n, s, bytes, flash, meta, reply);
     }
+    r
 }
 
 // Whether the byte at this place is only stored: past the sync word it is one of the header but for its last, or one of the data.

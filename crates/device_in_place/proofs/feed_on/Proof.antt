@@ -13,7 +13,7 @@ use Rattle.device_in_place.proofs.feed_on.Tie as tie
 pass-requires : tie.Need-pass-requires
 pass-requires c κs =
     let at-if1 = c .before .before .before .before in
-    let at-refusal-of = at-if1 .before .before in
+    let at-refusal-of = at-if1 .before .before .before in
     let a = at-refusal-of .before .before .before .before .before .before .before .args in
     let n = on-allowed (a .setup) (a .s .now) (a .n) (a .bytes .now) (a .flash .now) (a .meta .now) (a .reply .now) _ (at-refusal-of .refusal-of .ensures) _
     (at-if1 .before .is-none .ensures) (at-if1 .if1 .taken) in
@@ -24,7 +24,7 @@ returns : tie.Need-returns
 returns c =
     let at-pass = c .before .before .before .before .before .before .before .before in
     let at-if1 = at-pass .before .before .before .before .before in
-    let at-refusal-of = at-if1 .before .before in
+    let at-refusal-of = at-if1 .before .before .before in
     let a = at-refusal-of .before .before .before .before .before .before .before .args in
     let s : List ℕ = a .s .now in
     let n = on-allowed (a .setup) s (a .n) (a .bytes .now) (a .flash .now) (a .meta .now) (a .reply .now) _ (at-refusal-of .refusal-of .ensures) _
@@ -39,13 +39,14 @@ returns-2 : tie.Need-returns-2
 returns-2 c =
     let at-refusal-of = c .before .before .before in
     let a = at-refusal-of .before .before .before .before .before .before .before .args in
-    rw (c .refused .ensures)
+    rw (c .before .before .refused .ensures)
     (on-refused (a .setup) (a .s .now) (a .n) (a .bytes .now) (a .flash .now) (a .meta .now) (a .reply .now)
-    (refusalNumber (at-refusal-of .refusal-of .result)) (at-refusal-of .refusal-of .ensures) _ (c .before .before .is-none .ensures) (c .before .if1 .left))
+    (refusalNumber (at-refusal-of .refusal-of .result)) (at-refusal-of .refusal-of .ensures) _ (c .before .is-none .ensures) (c .if1 .left))
 
 pub feed-on-spec : {M : Type 1} → statement M
 feed-on-spec = tie.close
     (tie.spec
+    (λ c κs. search needs)
     (λ c κs. search needs)
     (λ c κs. search needs)
     pass-requires
@@ -54,6 +55,5 @@ feed-on-spec = tie.close
     (λ c. search needs)
     (λ c. search needs)
     returns
-    (λ c κs. search needs)
     (λ c. search needs)
     returns-2)
