@@ -132,6 +132,7 @@ fn pass(
     let p = read(s, n.got, bytes);
     let stop = p.stop;
     let m = begun(n, p.got);
+    // made once, and replaced: of a struct that each way out makes the compiler keeps parts in memory
     let mut r = Passed {
         numbers: m,
         taken: p.taken,

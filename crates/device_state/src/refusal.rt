@@ -47,7 +47,7 @@ impl Refusal {
     }
 }
 
-// Here and below, what is known to be small is divided in 32 bits: a controller has no short way for more.
+// Here and below a number that is known to be small is taken in 32 bits, as small controllers reckon.
 fn erase_fits(erase: usize) -> bool
     ensures { λ r. ⌜ r ≡ eraseSizeFits 64 erase ⌝ }
 {

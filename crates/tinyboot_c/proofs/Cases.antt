@@ -17,8 +17,7 @@ use Rattle.c_start.specs.Start.{AfterStart, startRefused, startIn}
 use Rattle.c_app.specs.App.{appSetupFrom}
 use Rattle.c_app.specs.Calls.{AfterApp, appRefused, appFedIn}
 use Rattle.tinyboot_c.specs.Calls
-use Rattle.tinyboot_c.specs.Inner.{stateless}
-use Rattle.tinyboot_c.proofs.Placing.{laid}
+use Rattle.tinyboot_c.specs.Inner.{stateless, laid}
 use Rattle.tinyboot_c.proofs.Round.{refused-kept}
 
 -- the setup's numbers are the first that the feed tries, too

@@ -11,8 +11,9 @@ use Rattle.device_feed.specs.Feed.{Called}
 use Rattle.device_in_place.specs.On.{restIn, CalledOn, onBy}
 use Rattle.device_in_place.specs.Inner.{calledOn}
 use Rattle.device_replies.specs.declared.Said.{Said}
-use Rattle.c_layout.specs.Layout.{numberBytes, partBytes, stateBytes, answered}
+use Rattle.c_layout.specs.Layout.{numberBytes, partBytes, answered}
 use Rattle.tinyboot_c.specs.Calls
+use Rattle.tinyboot_c.specs.Inner.{laid}
 use Rattle.device_replies.specs.Inner.{toldBy}
 use Rattle.tinyboot_c.proofs.Laying.{laid-next}
 
@@ -31,11 +32,6 @@ placed f p r n l lr ln =
 
 rest-size : (s : List ℕ) → length s ≡ 136 → length (restIn 52 64 s) ≡ 8
 rest-size s l = simp (length-drop) (omega arith)
-
--- what a call left, in the buffers: its answer where there is room for one
-abbrev pub laid : Called → List ℕ → Calls.AfterFeed
-laid x answer =
-    Calls.afterFeed (x .told .number) (stateBytes (x .left .state)) (x .left .flash) (x .left .meta) (x .room) (answered (x .told) (x .taken) answer)
 
 module _ (answer : List ℕ) where
   abbrev left : CalledOn → Calls.AfterFeed

@@ -29,7 +29,7 @@ use Rattle.device_feed.specs.Feed.{Called, refusalFor, refusedBy, takenOf, fedO
 use Rattle.c_layout.specs.Layout.{part, setupFrom, holdsState, numbersFrom, stateFrom, flagByte, numberBytes, partBytes, stateBytes}
 use Rattle.tinyboot_c.specs.Calls.{feedRefused, worldFrom}
 use Rattle.tinyboot_c.proofs.Copies.{part-four}
-use Rattle.tinyboot_c.proofs.Placing.{laid}
+use Rattle.tinyboot_c.specs.Inner.{laid}
 use Rattle.c_layout.proofs.Holding.{holds-size, holds-flags}
 use Rattle.c_layout.proofs.Flags.{flag-read, flag-write}
 

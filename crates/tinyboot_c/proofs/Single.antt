@@ -21,10 +21,9 @@ use Rattle.device_in_place.proofs.Quick.{byte-laid, byte-within, byte-fed}
 use Rattle.c_layout.specs.Layout.{part, setupFrom, holdsState, numbersFrom, flagByte, numberBytes, partBytes, stateBytes, answerBytes, answered}
 use Rattle.tinyboot_c.specs.Calls.{AfterFeed, afterFeed, feedCalled}
 use Rattle.device_replies.specs.Inner.{toldBy}
-use Rattle.tinyboot_c.specs.Inner.{ByteFed}
+use Rattle.tinyboot_c.specs.Inner.{ByteFed, laid}
 use Rattle.device_replies.specs.declared.Said.{Said}
 use Rattle.c_layout.proofs.Holding.{holds-size}
-use Rattle.tinyboot_c.proofs.Placing.{laid}
 use Rattle.tinyboot_c.proofs.Round.{read-written}
 
 -- in three parts: the byte at g of the first, and the count in the last

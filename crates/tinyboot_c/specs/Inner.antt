@@ -9,9 +9,9 @@ use Rattle.laws.specs.Over.{over}
 use Rattle.device_state.specs.declared.Setup.{Setup}
 use Rattle.device_state.specs.Refusals.{setUp}
 use Rattle.device_replies.specs.Answers.{mute}
-use Rattle.device_feed.specs.Feed.{fedOf}
-use Rattle.c_layout.specs.Layout.{setupFrom, answerBytes}
-use Rattle.tinyboot_c.specs.Calls.{afterFeed, feedCalled, worldFrom}
+use Rattle.device_feed.specs.Feed.{Called, fedOf}
+use Rattle.c_layout.specs.Layout.{setupFrom, stateBytes, answerBytes, answered}
+use Rattle.tinyboot_c.specs.Calls.{AfterFeed, afterFeed, feedCalled, worldFrom}
 
 -- one byte, tried alone: not taken, the state is as it was; taken, state and answer are the feed's, whatever stands in the other buffers
 abbrev pub ByteFed : List ℕ → List ℕ → List ℕ → ℕ → ℕ → ℕ → List ℕ → Bool → Type 0
@@ -23,3 +23,8 @@ ByteFed setup state bytes flash meta room after true =
 -- the refusal of bytes that hold a setup and no state
 abbrev pub stateless : ℕ → Setup → ℕ
 stateless page s = if setUp page s then 11 else 10
+
+-- what a feed left, in the buffers: its answer where there is room for one
+abbrev pub laid : Called → List ℕ → AfterFeed
+laid x answer =
+    afterFeed (x .told .number) (stateBytes (x .left .state)) (x .left .flash) (x .left .meta) (x .room) (answered (x .told) (x .taken) answer)

@@ -20,9 +20,9 @@ ghost use lib.ListN.{length};
 ghost use lib.Dec.{ltb};
 ghost use Rattle.laws.specs.Pick.{if_then_else_};
 ghost use Rattle.device_feed.specs.Feed.{fedOf};
-ghost use Rattle.c_layout.specs.Layout.{answerSize, setupFrom, holdsState, stateBytes, answered};
+ghost use Rattle.c_layout.specs.Layout.{answerSize, setupFrom, holdsState};
 ghost use Rattle.tinyboot_c.specs.Calls.{worldFrom, afterFeed};
-ghost use Rattle.tinyboot_c.specs.Inner.{ByteFed, stateless};
+ghost use Rattle.tinyboot_c.specs.Inner.{ByteFed, stateless, laid};
 ghost use mathlib.Core.Bool.{true};
 
 // Where the bytes hold no state: the setup's numbers are tried before it.
@@ -96,11 +96,9 @@ fn fed_piece(
     answer: &mut [u8],
 ) -> u8
     requires { ⌜ length (now state) ≡ 136 ⌝ }
-    ensures { λ r. ⌜ (let x = fedOf 52 64 setup (worldFrom 52 64 (now (state .entry)) (now (flash .entry)) (now (meta .entry)))
-        (now (bytes .entry)) (now (reply .entry)) in
-        afterFeed r (now (state .exit)) (now (flash .exit)) (now (meta .exit)) (now (reply .exit)) (now (answer .exit)) ≡
-        afterFeed (x .told .number) (stateBytes (x .left .state)) (x .left .flash) (x .left .meta) (x .room)
-        (answered (x .told) (x .taken) (now (answer .entry)))) ⌝ }
+    ensures { λ r. ⌜ afterFeed r (now (state .exit)) (now (flash .exit)) (now (meta .exit)) (now (reply .exit)) (now (answer .exit)) ≡
+        laid (fedOf 52 64 setup (worldFrom 52 64 (now (state .entry)) (now (flash .entry)) (now (meta .entry))) (now (bytes .entry))
+        (now (reply .entry))) (now (answer .entry)) ⌝ }
 {
     let n = numbers_from(state);
     let p = feed_on(setup, n, state, bytes, flash, meta, reply);
@@ -121,11 +119,9 @@ pub(crate) fn fed(
 ) -> u8
     requires { ⌜ length (now setup) ≡ 32 ⌝ }
     requires { ⌜ holdsState 52 64 (now state) ≡ true ⌝ }
-    ensures { λ r. ⌜ (let x = fedOf 52 64 (setupFrom (now (setup .entry))) (worldFrom 52 64 (now (state .entry)) (now (flash .entry)) (now (meta .entry)))
-        (now (bytes .entry)) (now (reply .entry)) in
-        afterFeed r (now (state .exit)) (now (flash .exit)) (now (meta .exit)) (now (reply .exit)) (now (answer .exit)) ≡
-        afterFeed (x .told .number) (stateBytes (x .left .state)) (x .left .flash) (x .left .meta) (x .room)
-        (answered (x .told) (x .taken) (now (answer .entry)))) ⌝ }
+    ensures { λ r. ⌜ afterFeed r (now (state .exit)) (now (flash .exit)) (now (meta .exit)) (now (reply .exit)) (now (answer .exit)) ≡
+        laid (fedOf 52 64 (setupFrom (now (setup .entry))) (worldFrom 52 64 (now (state .entry)) (now (flash .entry)) (now (meta .entry)))
+        (now (bytes .entry)) (now (reply .entry))) (now (answer .entry)) ⌝ }
 {
     if fed_byte(setup, state, bytes, flash.len(), meta.len(), reply.len()) {
         return lay_answer(answer, unsaid(0), 1);

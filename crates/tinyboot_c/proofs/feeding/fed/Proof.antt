@@ -7,7 +7,7 @@ use Rattle.tinyboot_c.specs.Calls.{AfterFeed, worldFrom}
 use mathlib.Core.Path.{_≡_, refl, ap, _∙_}
 use lib.ListN.{length}
 use Rattle.c_layout.proofs.Holding.{holds-size}
-use Rattle.tinyboot_c.proofs.Placing.{laid}
+use Rattle.tinyboot_c.specs.Inner.{laid}
 use Rattle.tinyboot_c.proofs.Single.{byte-answered}
 use borrow.Author.Needs.{needs}
 use Rattle.tinyboot_c.proofs.feeding.fed.Statement.{statement}
