@@ -6,7 +6,7 @@ use mathlib.Core.Bool.{Bool, true, false}
 use mathlib.Core.List.{List, [], _∷_, _++_}
 use native.Mathlib.Nat.{mod-eq-of-lt}
 use native.Mathlib.Omega.{arith}
-use lib.ListN.{length, getD, take, drop, take-append-drop, drop-of-length-le}
+use lib.ListN.{length, getD, drop, take-append-drop, drop-of-length-le}
 use lib.Seq.{take-at, drop-at, drop-cons, getD-drop}
 use lib.Dec.{eqb}
 use Rattle.laws.specs.Pick.{pick}

@@ -1,7 +1,7 @@
 -- Where a setup, a state and an answer stand in the caller's bytes (tinyboot_c/include/tinyboot.h, Buffers). Numbers of several bytes stand low byte first.
 -- `cap` is the payload capacity, `page` the page size: the header has them at 52 and 64.
 use Prim.Native.Nat.{ℕ, _+_, _%_}
-use mathlib.Core.Bool.{Bool, true, false, _&&_}
+use mathlib.Core.Bool.{Bool, _&&_}
 use mathlib.Core.List.{List, [], _∷_, _++_}
 use lib.ListN.{length, getD, take, drop}
 use lib.Dec.{eqb, ltb}

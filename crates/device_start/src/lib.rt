@@ -14,7 +14,6 @@ use wire_numbers::RunMode;
 ghost use mathlib.Core.Path.{_≡_};
 ghost use mathlib.Core.Bool.{true};
 ghost use lib.Dec.{eqb};
-ghost use lib.ListN.{length};
 ghost use Rattle.wire_numbers.specs.Names.{modeNumber};
 ghost use Rattle.device_boot.specs.Start.{startOf};
 ghost use Rattle.device_state.specs.Refusals.{refusalNumber};

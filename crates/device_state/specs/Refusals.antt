@@ -1,6 +1,6 @@
 -- When a call refuses (01, What a call says). `cap` is the payload capacity, `page` the page size.
 use Prim.Native.Nat.{ℕ, _+_, _%_}
-use mathlib.Core.Bool.{Bool, true, false, not, _&&_}
+use mathlib.Core.Bool.{Bool, true, not, _&&_}
 use mathlib.Core.List.{List}
 use lib.Dec.{leb, ltb, eqb}
 use Rattle.laws.specs.Pick.{if_then_else_}

@@ -10,7 +10,7 @@ use Rattle.wire_frames.specs.Fields.{cmdOf}
 use Rattle.cmd_select.specs.Select.{Choice, copied, selectOf}
 use Rattle.cmd_select.proofs.Selecting.{bytes-copied}
 use Rattle.device_turns.specs.declared.Silence.{Silence}
-use Rattle.device_turns.specs.Turns.{Turned, silent, replies, chosen, damaged, asked, turnOf}
+use Rattle.device_turns.specs.Turns.{silent, replies, chosen, damaged, asked, turnOf}
 
 module _ (id : List ℕ) (idLen : ℕ) (f : List ℕ) (on : Bool) (P : List ℕ → Type 0) (kept : P f) (laid : P (copied (take idLen id) f)) where
   damaged-bytes : (why : Silence) → P (damaged why idLen on f .bytes)

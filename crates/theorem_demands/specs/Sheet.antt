@@ -1,6 +1,6 @@
 -- The starred rows of 01's bench sheet, and some beside them: what is put to a new device, and what that comes to. Read it beside the sheet.
 use Prim.Native.Nat.{ℕ, zero, suc, _-_}
-use mathlib.Core.Bool.{Bool, true, false}
+use mathlib.Core.Bool.{true, false}
 use mathlib.Core.List.{List, [], _∷_, _++_}
 use lib.ListN.{length, getD, take, drop, replicate}
 use Rattle.laws.specs.Low.{lowBytes}

@@ -6,7 +6,7 @@ use mathlib.Core.Bool.{Bool, true, false, not, _&&_}
 use mathlib.Core.Logic.{_⊎_, inl, inr}
 use native.Mathlib.Omega.{arith}
 use borrow.Author.Tests.{leb-true, eq-eqb, le-ltb}
-use lib.ListN.{length, take, drop, length-drop}
+use lib.ListN.{length, drop, length-drop}
 use lib.Dec.{eqb, leb}
 use Rattle.laws.proofs.Bools.{and-both}
 use Rattle.wire_frames.specs.declared.frame.Kind.{Kind}

@@ -29,7 +29,7 @@ use Rattle.device_handler.specs.Handling.{Obeyed, bare, loaded, afterInfo, afte
 use Rattle.cmd_select.specs.Select.{copied}
 use Rattle.device_dispatcher.specs.Dispatch.{Ending, answeredOf, idOf, turning}
 use Rattle.desk_replies.specs.Replies as desk
-use Rattle.desk_replies.specs.Replies.{info, verify, select, plain}
+use Rattle.desk_replies.specs.Replies.{info, verify, plain}
 use Rattle.theorem_desk.specs.Meant.{infoMeant, contentsMeant, repliedBy}
 use Rattle.theorem_desk.specs.Desk.{Wide, Hears}
 use Rattle.theorem_desk.proofs.Fine as fine

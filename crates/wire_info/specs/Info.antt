@@ -1,6 +1,6 @@
 -- The reply to Info.
 use Prim.Native.Nat.{ℕ, _+_}
-use mathlib.Core.List.{List, [], _∷_, _++_}
+use mathlib.Core.List.{List, _∷_, _++_}
 use lib.ListN.{getD, take, drop}
 use Rattle.laws.specs.Low.{lowFirst, lowBytes}
 use Rattle.wire_info.specs.declared.InfoData.{InfoData}

@@ -2,7 +2,7 @@ use Rattle.device_in_place.proofs.Copies.{fetched, fetched-all}
 use lib.Seq.{paste}
 use lib.ListN.{drop}
 use mathlib.Core.Path.{_≡_, refl}
-use Prim.Native.Nat.{ℕ, _-_, _≤_}
+use Prim.Native.Nat.{_-_, _≤_}
 use native.Mathlib.Omega.{arith}
 use borrow.Author.Needs.{needs}
 use Rattle.device_in_place.proofs.fetch.Statement.{statement}

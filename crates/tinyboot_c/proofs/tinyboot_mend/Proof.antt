@@ -7,7 +7,7 @@ use Rattle.laws.specs.Pick.{pick}
 use borrow.Author.Needs.{needs}
 use Rattle.device_mend.specs.declared.Mended.{Mended}
 use Rattle.device_mend.specs.Mend.{Mending, refusalIn, countIn, leaves, mendNumber}
-use Rattle.tinyboot_c.specs.Calls.{AfterMend, afterMend, mendCalled, cMended}
+use Rattle.tinyboot_c.specs.Calls.{afterMend, mendCalled, cMended}
 use Rattle.tinyboot_c.proofs.tinyboot_mend.Statement.{statement}
 use Rattle.tinyboot_c.proofs.tinyboot_mend.Tie as tie
 

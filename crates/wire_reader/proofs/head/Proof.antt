@@ -17,7 +17,8 @@ returns-2 c =
     let at-entry = c .before .before .before .before .before in
     let a = at-entry .args in
     let e = c .enum-told2 .given .1 in
-    rw e (refused-step 52 (a .device) (a .f .now) 9 (at-entry .pre) (a .b) (omega arith) (c .enum-told2 .given .0 .0) (sym (c .before .before .judge .ensures) ∙ e))
+    rw e (refused-step 52 (a .device) (a .f .now) 9 (at-entry .pre) (a .b) (omega arith) (c .enum-told2 .given .0 .0)
+    (sym (c .before .before .judge .ensures) ∙ e))
 
 pub head-spec : {M : Type 1} → statement M
 head-spec =

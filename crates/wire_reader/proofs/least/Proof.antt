@@ -1,5 +1,4 @@
 use borrow.Author.Tests.{le-leb, lt-leb}
-use native.Mathlib.Omega.{arith}
 use borrow.Author.Needs.{needs}
 use Rattle.wire_reader.proofs.least.Statement.{statement}
 use Rattle.wire_reader.proofs.least.Tie as tie
