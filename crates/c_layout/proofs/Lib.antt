@@ -1,3 +1,4 @@
+pub mod Laying
 pub mod Holding
 pub mod Flags
 pub mod Answering

@@ -7,12 +7,16 @@ use device_state::Numbers;
 use store_flash::storage::PAGE_SIZE;
 use wire_frames::frame::FRAME;
 ghost use mathlib.Core.Path.{_≡_};
+ghost use mathlib.Core.List.{_++_, _∷_, []};
+ghost use Prim.Native.Nat.{_≤_};
 ghost use lib.Dec.{eqb};
 ghost use lib.ListN.{length};
+ghost use lib.Seq.{paste};
+ghost use Rattle.laws.specs.Low.{lowBytes};
 ghost use Rattle.device_start.specs.Starts.{newState};
 ghost use Rattle.device_replies.specs.Answers.{mute};
 ghost use Rattle.device_replies.specs.Inner.{toldBy};
-ghost use Rattle.c_layout.specs.Layout.{setupSize, holdsState, flagByte, numberBytes, stateBytes, answerBytes, answered};
+ghost use Rattle.c_layout.specs.Layout.{setupSize, holdsState, flagByte, numberBytes, stateBytes, answered};
 
 // How many bytes a setup, a state and an answer take.
 pub const SETUP_SIZE: usize = 32;
@@ -90,39 +94,46 @@ pub fn new_bytes(closed: bool) -> [u8; STATE_SIZE]
     new
 }
 
-// An answer's 16 bytes.
-fn answer_bytes(said: Said, taken: usize) -> [u8; ANSWER_SIZE]
-    ensures { λ r. ⌜ r ≡ answerBytes (toldBy said) taken ⌝ }
+// What a call said, in the first half of an answer.
+fn lay_said(a: &mut [u8], said: Said)
+    requires { ⌜ 16 ≤ length (now a) ⌝ }
+    ensures { λ r. ⌜ now (a .exit) ≡
+        paste (now (a .entry)) 0 (said .number ∷ said .mode ∷ (lowBytes 2 (said .len) ++ (said .wait ∷ said .why ∷ 0 ∷ 0 ∷ []))) 8 ⌝ }
 {
-    [
-        said.number,
-        said.mode,
-        (said.len % 256) as u8,
-        (said.len / 256 % 256) as u8,
-        said.wait,
-        said.why,
-        0,
-        0,
-        (taken % 256) as u8,
-        (taken / 256 % 256) as u8,
-        (taken / 256 / 256 % 256) as u8,
-        (taken / 256 / 256 / 256 % 256) as u8,
-        (taken / 256 / 256 / 256 / 256 % 256) as u8,
-        (taken / 256 / 256 / 256 / 256 / 256 % 256) as u8,
-        (taken / 256 / 256 / 256 / 256 / 256 / 256 % 256) as u8,
-        (taken / 256 / 256 / 256 / 256 / 256 / 256 / 256 % 256) as u8,
-    ]
+    a[0] = said.number;
+    a[1] = said.mode;
+    a[2] = (said.len % 256) as u8;
+    a[3] = (said.len / 256 % 256) as u8;
+    a[4] = said.wait;
+    a[5] = said.why;
+    a[6] = 0;
+    a[7] = 0;
 }
 
-// The answer laid where there is room for one, and its number.
+// How many bytes were taken, in the second.
+fn lay_taken(a: &mut [u8], taken: usize)
+    requires { ⌜ 16 ≤ length (now a) ⌝ }
+    ensures { λ r. ⌜ now (a .exit) ≡ paste (now (a .entry)) 8 (lowBytes 8 taken) 8 ⌝ }
+{
+    a[8] = (taken % 256) as u8;
+    a[9] = (taken / 256 % 256) as u8;
+    a[10] = (taken / 256 / 256 % 256) as u8;
+    a[11] = (taken / 256 / 256 / 256 % 256) as u8;
+    a[12] = (taken / 256 / 256 / 256 / 256 % 256) as u8;
+    a[13] = (taken / 256 / 256 / 256 / 256 / 256 % 256) as u8;
+    a[14] = (taken / 256 / 256 / 256 / 256 / 256 / 256 % 256) as u8;
+    a[15] = (taken / 256 / 256 / 256 / 256 / 256 / 256 / 256 % 256) as u8;
+}
+
+// The answer laid where there is room for one, byte by byte, and its number.
 pub fn lay_answer(a: &mut [u8], said: Said, taken: usize) -> u8
     ensures { λ r. ⌜ (r ≡ said .number) × (now (a .exit) ≡ answered (toldBy said) taken (now (a .entry))) ⌝ }
 {
     if a.len() < ANSWER_SIZE {
         return said.number;
     }
-    let new = answer_bytes(said, taken);
-    bytes::copy(&new, a);
+    lay_said(a, said);
+    lay_taken(a, taken);
     said.number
 }
 

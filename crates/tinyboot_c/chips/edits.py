@@ -6,8 +6,8 @@ EXPORTED = re.compile(r"^define (noundef(?: zeroext)?) (\S+) @(tinyboot_\w+)\((.
 # Not inlined, where there are such: each is called in several places, and a copy in each costs more than the calls. Another name costs size alone. One
 # device's list is shorter: its constants have to reach the tests of them.
 APART = ("wire_numbers::crc::crc16", "wire_numbers::le::read32", "wire_frames::fields::addr", "tinyboot_c::layout::four", "device_state::refusal::fits",
-         "tinyboot_c::layout::id_from", "wire_frames::frame::well", "device_feed::kind_of")
-ONE_APART = ("wire_numbers::crc::crc16", "wire_frames::fields::addr", "device_feed::is_going", "c_layout::answer_bytes", "wire_frames::frame::well")
+         "tinyboot_c::layout::id_from", "wire_frames::frame::well", "device_feed::kind_of", "c_layout::lay_taken")
+ONE_APART = ("wire_numbers::crc::crc16", "wire_frames::fields::addr", "device_feed::is_going", "c_layout::lay_taken", "wire_frames::frame::well")
 # One device does without the shorter way for a single byte: it answers whether it has taken the byte, and where it has not the byte goes the long way.
 SHORTCUT = "tinyboot_c::feeding::fed_byte"
 # On a small target the CRC goes byte by byte: `crc16` hands the whole message to the function that takes its last bytes, as `crc16_by_byte` does in the source,

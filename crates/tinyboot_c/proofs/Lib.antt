@@ -1,5 +1,4 @@
 mod Copies
-mod Laying
 mod Cases
 pub mod Round
 mod Placing

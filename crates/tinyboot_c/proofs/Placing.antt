@@ -15,7 +15,7 @@ use Rattle.c_layout.specs.Layout.{numberBytes, partBytes, answered}
 use Rattle.tinyboot_c.specs.Calls
 use Rattle.tinyboot_c.specs.Inner.{laid}
 use Rattle.device_replies.specs.Inner.{toldBy}
-use Rattle.tinyboot_c.proofs.Laying.{laid-next}
+use Rattle.c_layout.proofs.Laying.{laid-next}
 
 -- n takes the place of the last 8 of 136 bytes
 placed : (f p r n : List ℕ) → length (f ++ (p ++ r)) ≡ 136 → length r ≡ 8 → length n ≡ 8 → paste (f ++ (p ++ r)) 128 n 8 ≡ partBytes f p n

@@ -1,12 +1,10 @@
-use Prim.Native.Nat.{ℕ}
 use mathlib.Core.Path.{refl, ap, _∙_}
-use mathlib.Core.List.{List, _++_}
-use lib.ListN.{length, drop}
-use Rattle.laws.specs.Over.{over}
-use lib.Seq.{take-all}
+use mathlib.Core.List.{List, [], _∷_, _++_}
+use Prim.Native.Nat.{ℕ}
+use lib.Seq.{paste}
+use Rattle.laws.specs.Low.{lowBytes}
 use Rattle.device_replies.specs.Inner.{toldBy}
-use Rattle.c_layout.proofs.Answering.{answer-short, answer-laid}
-use native.Mathlib.Omega.{arith}
+use Rattle.c_layout.proofs.Answering.{two-halves, answer-short, answer-laid}
 use borrow.Author.Needs.{needs}
 use Rattle.c_layout.proofs.lay_answer.Statement.{statement}
 use Rattle.c_layout.proofs.lay_answer.Tie as tie
@@ -16,14 +14,15 @@ returns c = let a = c .before .before .args in (refl, answer-short (toldBy (a .s
 
 returns-2 : tie.Need-returns-2
 returns-2 c =
-    let at-copy = c .before .before in
-    let at-answer-bytes = at-copy .before .before .before in
-    let at-if1 = at-answer-bytes .before in
+    let at-taken = c .before .before in
+    let at-said = at-taken .before .before .before .before in
+    let at-if1 = at-said .before .before in
     let a = at-if1 .before .before .args in
-    let x : List ℕ = at-answer-bytes .answer-bytes .result in (
+    let n = a .said in
+    let s : List ℕ = n .number ∷ n .mode ∷ (lowBytes 2 (n .len) ++ (n .wait ∷ n .why ∷ 0 ∷ 0 ∷ [])) in
+    let t : List ℕ = lowBytes 8 (a .taken) in (
       refl,
-      at-copy .copy .ensures .1 ∙ ap (λ (y : List ℕ). y ++ drop (length x) (a .a .now)) (take-all (length x) x (omega arith)) ∙
-          ap (λ (v : List ℕ). over v (a .a .now)) (at-answer-bytes .answer-bytes .ensures) ∙
+      at-taken .lay-taken .ensures ∙ ap (λ (v : List ℕ). paste v 8 t 8) (at-said .lay-said .ensures) ∙ two-halves s t (a .a .now) refl refl ∙
           answer-laid (toldBy (a .said)) (a .taken) (a .a .now) (at-if1 .if1 .left),
     )
 
@@ -33,7 +32,6 @@ lay-answer-spec =
     (tie.spec
     returns
     (λ c κs. search needs)
-    (λ c. search needs)
     (λ c κs. search needs)
     (λ c. search needs)
     returns-2)
