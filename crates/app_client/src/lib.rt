@@ -1,6 +1,8 @@
 // Ours: the Rust's `App::poll` (lib/core/src/app.rs) reads from the wire until a frame has ended; this one is handed the bytes as they come, and answers what
 // is to be done.
 
+#![tactic(auto)]
+
 ghost use Rattle.std.specs.Prelude.{◌≡◌, true};
 ghost use Rattle.wire_frames.specs.Stored.{well_of};
 ghost use Rattle.app_state.specs.State.{world, got_set};
@@ -13,7 +15,7 @@ use device_replies::Answer;
 use wire_frames::frame::FrameBytes;
 
 // The state afterwards, how many bytes of the piece were taken, and what the call says.
-#[derive(Drop)]
+#[derive(Clone, Copy)]
 pub struct AppFed {
     pub state: AppState,
     pub taken: usize,
@@ -21,7 +23,7 @@ pub struct AppFed {
 }
 
 // The same where the frame is lent: what it does not hold.
-#[derive(Drop)]
+#[derive(Clone, Copy)]
 pub struct AppPassed {
     pub numbers: AppNumbers,
     pub taken: usize,

@@ -1,6 +1,5 @@
 -- What becomes of a frame that has ended, in the running app (02, E3), by the way in which it ended. `cap` is the payload capacity.
-use Rattle.std.specs.Prelude.{ℕ, Bool, true, false, not, ◌&&◌, List, length, get_or, take, eqb}
-use Rattle.laws.specs.Pick.{if◌then◌else◌}
+use Rattle.std.specs.Prelude.{ℕ, Bool, true, false, not, ◌&&◌, List, length, get_or, take, eqb, if◌then◌else◌}
 use Rattle.wire_numbers.specs.Flags.{bit_of, bit_set}
 use Rattle.wire_frames.specs.declared.frame.Kind.{Kind}
 use Rattle.wire_frames.specs.Fields.{cmd_of, flags_of, Ok, Unsupported}

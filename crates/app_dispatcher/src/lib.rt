@@ -1,6 +1,8 @@
 // Translated from tinyboot, lib/core/src/app.rs (MIT OR Apache-2.0): `process` and `handle_cmd`; changed: the record is lent, the reply is written into a lent
 // room, the wait and the reset are answers.
 
+#![tactic(auto)]
+
 ghost use Rattle.std.specs.Prelude.{◌≡◌, true, eqb};
 ghost use Rattle.wire_numbers.specs.Names.{mode_number};
 ghost use Rattle.wire_numbers.specs.Flags.{bit_of};
@@ -30,7 +32,7 @@ struct Response {
 }
 
 // What the end of a frame leaves beside what it is lent.
-#[derive(Drop)]
+#[derive(Clone, Copy)]
 pub struct AppDispatched {
     pub answer: Answer,
     pub numbers: AppNumbers,

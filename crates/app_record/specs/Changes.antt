@@ -1,6 +1,5 @@
 -- What the running app changes in the record (02, E3), said of the steps of a rewrite (02, E4): how many are taken, to which record.
-use Rattle.std.specs.Prelude.{ℕ, not, List, length, eqb}
-use Rattle.laws.specs.Pick.{if◌then◌else◌}
+use Rattle.std.specs.Prelude.{ℕ, not, List, length, eqb, if◌then◌else◌}
 use Rattle.store_record.specs.Cuts.{cut_after}
 use Rattle.store_record.specs.Record.{validating, checksum_of, size_of, baud_of, position_of, fresh_of, row_of}
 use Rattle.app_record.specs.declared.Stored.{Stored}

@@ -1,6 +1,5 @@
 -- What the running app reads off the record (02, E3 and E10).
-use Rattle.std.specs.Prelude.{ℕ, not, List, length, eqb}
-use Rattle.laws.specs.Pick.{if◌then◌else◌}
+use Rattle.std.specs.Prelude.{ℕ, not, List, length, eqb, if◌then◌else◌}
 use Rattle.wire_rates.specs.Baud.{baud_index}
 use Rattle.store_rate.specs.Rate.{rate_read}
 use Rattle.store_record.specs.Record.{position_of}

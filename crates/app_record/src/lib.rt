@@ -1,6 +1,8 @@
 // Translated from tinyboot, lib/core/src/app.rs (MIT OR Apache-2.0): `confirm`, `baud`, `set_baud`, `store_baud`; changed: the record is lent, and what is
 // no record is refused.
 
+#![tactic(auto)]
+
 ghost use Rattle.std.specs.Prelude.{◌≡◌};
 ghost use Rattle.wire_rates.specs.Baud.{baud_index};
 ghost use Rattle.app_record.specs.Changes.{stored_number, leaves, confirm_steps, confirm_of, baud_steps, baud_stored};
@@ -12,20 +14,20 @@ use store_record::traits::BootState;
 use wire_rates::BaudRate;
 
 // What became of a change: there was nothing to do, and no step of a rewrite was taken; the record is rewritten; or it is no record.
-#[derive(Drop)]
+#[derive(Clone, Copy)]
 pub enum Stored {
     Nothing,
     Written,
     BadRecord,
 }
 
-#[derive(Drop)]
+#[derive(Clone, Copy)]
 pub enum RateRead {
     Rate(BaudRate),
     BadRecord,
 }
 
-#[derive(Drop)]
+#[derive(Clone, Copy)]
 pub enum PositionRead {
     Position(u8),
     BadRecord,

@@ -1,7 +1,6 @@
 -- When a call of the app client refuses (01, What a call says; 02, E3): by the bootloader's tests, but for the flash, of which it has none. `cap` is the
 -- payload capacity, `page` the page size.
-use Rattle.std.specs.Prelude.{ℕ, Bool, true, not, List}
-use Rattle.laws.specs.Pick.{if◌then◌else◌}
+use Rattle.std.specs.Prelude.{ℕ, Bool, true, not, List, if◌then◌else◌}
 use Rattle.wire_frames.specs.Stored.{well_of}
 use Rattle.device_state.specs.Refusals.{fits, lengths_of}
 use Rattle.app_state.specs.declared.AppSetup.{AppSetup}

@@ -1,6 +1,8 @@
 // Translated from tinyboot, lib/core/src/app.rs (MIT OR Apache-2.0): `AppConfig` and what `App` keeps; changed: the state goes by value, the record is lent,
 // and what the Rust's types rule out is refused.
 
+#![tactic(auto)]
+
 ghost use Rattle.std.specs.Prelude.{◌≡◌};
 ghost use Rattle.device_state.specs.Refusals.{refusal_number};
 ghost use Rattle.app_state.specs.State.{new_app};
@@ -13,7 +15,7 @@ use wire_frames::frame::{Frame, FrameBytes};
 
 // The numbers that an app answers with; the bootloader's are those of its image. An id of length 0 is an unaddressed app; id bytes past the length count for
 // nothing.
-#[derive(Drop)]
+#[derive(Clone, Copy)]
 pub struct AppSetup {
     pub erase_size: usize,
     pub capacity: usize,
@@ -25,14 +27,14 @@ pub struct AppSetup {
 }
 
 // What an app keeps between calls beside its frame's bytes: how many of them have begun, the selection, whether a restart is due.
-#[derive(Drop)]
+#[derive(Clone, Copy)]
 pub struct AppNumbers {
     pub got: usize,
     pub selected: bool,
     pub closed: bool,
 }
 
-#[derive(Drop)]
+#[derive(Clone, Copy)]
 pub struct AppState {
     pub frame: FrameBytes,
     pub numbers: AppNumbers,

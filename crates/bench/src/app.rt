@@ -10,7 +10,7 @@ use store_flash::storage::NONE_PENDING;
 use wire_frames::frame::FrameBytes;
 
 // The kind of start is not the app's.
-fn setup_of(bench: Bench) -> AppSetup {
+fn setup_of(bench: &Bench) -> AppSetup {
     let s = bench.setup;
     let id = s.id;
     AppSetup {
@@ -44,8 +44,7 @@ fn numbers_of(n: Numbers) -> AppNumbers {
 }
 
 // From now on the app runs, with a new state.
-pub(crate) fn begin(bench: Bench, version: u16, f: &mut FrameBytes) -> Bench {
-    let mut bench = bench;
+pub(crate) fn begin(bench: &mut Bench, version: u16, f: &mut FrameBytes) {
     let state = app_new();
     let bytes = state.frame;
     let n = state.numbers;
@@ -53,12 +52,11 @@ pub(crate) fn begin(bench: Bench, version: u16, f: &mut FrameBytes) -> Bench {
     bench.numbers = kept(n);
     bench.runs = true;
     bench.app_version = version;
-    bench
 }
 
 // The call, on what is lent.
 pub(crate) fn fed(
-    bench: Bench,
+    bench: &Bench,
     bytes: &[u8],
     f: &mut FrameBytes,
     meta: &mut [u8],

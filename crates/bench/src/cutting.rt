@@ -12,11 +12,9 @@ fn new_record(bytes: &[u8]) -> Record {
 }
 
 // Its first so many steps, on what is lent of the record.
-pub(crate) fn cut(bench: Bench, bytes: &[u8]) -> Bench {
-    let mut bench = bench;
+pub(crate) fn cut(bench: &mut Bench, bytes: &[u8]) {
     let mut meta = bench.meta;
     let n = module::lent(bench.record, &meta);
     rewrite_steps(&mut meta[..n], new_record(bytes), byte_at(bytes, 0));
     bench.meta = meta;
-    bench
 }

@@ -2,75 +2,73 @@
 use crate::module::Bench;
 use crate::show;
 use device_state::Numbers;
+use std::io;
+use std::io::Write;
 use store_flash::cells::first;
 use store_flash::storage::NONE_PENDING;
 use wire_frames::frame::FrameBytes;
 use wire_numbers::crc::{CRC_INIT, crc16};
 
 // The length of what is lent, and its CRC.
-fn summed(out: &mut [u8], at: usize, name: &[u8], s: &[u8]) -> usize {
-    let at = show::text(out, at, name);
-    let at = show::next_decimal(out, at, s.len() as u64);
-    let at = show::byte(out, at, b' ');
-    let at = show::hex16(out, at, crc16(CRC_INIT, s));
-    show::byte(out, at, b'\n')
+fn summed(out: &mut impl Write, name: &[u8], s: &[u8]) -> io::Result<()> {
+    show::text(out, name)?;
+    show::next_decimal(out, s.len() as u64)?;
+    show::byte(out, b' ')?;
+    show::hex16(out, crc16(CRC_INIT, s))?;
+    show::byte(out, b'\n')
 }
 
 // A name alone where there are no bytes.
-fn listed(out: &mut [u8], at: usize, name: &[u8], s: &[u8]) -> usize {
-    let at = show::text(out, at, name);
-    show::end(out, at, s)
+fn listed(out: &mut impl Write, name: &[u8], s: &[u8]) -> io::Result<()> {
+    show::text(out, name)?;
+    show::end(out, s)
 }
 
-fn pending(out: &mut [u8], at: usize, next: u32) -> usize {
+fn pending(out: &mut impl Write, next: u32) -> io::Result<()> {
     if next == NONE_PENDING {
-        return show::text(out, at, b" -");
+        return show::text(out, b" -");
     }
-    show::next_decimal(out, at, next as u64)
+    show::next_decimal(out, next as u64)
 }
 
-fn flags(out: &mut [u8], at: usize, selected: bool, closed: bool) -> usize {
-    let at = show::next_decimal(out, at, selected as u64);
-    show::next_decimal(out, at, !closed as u64)
+fn flags(out: &mut impl Write, selected: bool, closed: bool) -> io::Result<()> {
+    show::next_decimal(out, selected as u64)?;
+    show::next_decimal(out, !closed as u64)
 }
 
-fn state(out: &mut [u8], at: usize, n: Numbers) -> usize {
-    let at = show::text(out, at, b"state");
-    let at = show::next_decimal(out, at, n.got as u64);
-    let at = show::next_decimal(out, at, n.fill as u64);
-    let at = pending(out, at, n.next);
-    let at = flags(out, at, n.selected, n.closed);
-    show::byte(out, at, b'\n')
+fn state(out: &mut impl Write, n: Numbers) -> io::Result<()> {
+    show::text(out, b"state")?;
+    show::next_decimal(out, n.got as u64)?;
+    show::next_decimal(out, n.fill as u64)?;
+    pending(out, n.next)?;
+    flags(out, n.selected, n.closed)?;
+    show::byte(out, b'\n')
 }
 
 // The data area stands at 10 to 61 of the frame's bytes.
-fn area(out: &mut [u8], at: usize, f: &[u8]) -> usize {
+fn area(out: &mut impl Write, f: &[u8]) -> io::Result<()> {
     if f.len() < 62 {
-        return at;
+        return Ok(());
     }
-    listed(out, at, b"data", &f[10..62])
+    listed(out, b"data", &f[10..62])
 }
 
 // What is lent of the record.
-fn lent_record(out: &mut [u8], at: usize, bench: Bench) -> usize {
+fn lent_record(out: &mut impl Write, bench: &Bench) -> io::Result<()> {
     let meta = bench.meta;
-    listed(out, at, b"record", first(&meta, bench.record))
+    listed(out, b"record", first(&meta, bench.record))
 }
 
 pub(crate) fn dump(
-    bench: Bench,
+    bench: &Bench,
     f: &FrameBytes,
     flash: &[u8],
     room: &[u8],
-    out: &mut [u8],
-) -> Bench {
-    let mut bench = bench;
-    let n = bench.numbers;
-    let at = summed(out, bench.out, b"flash", first(flash, bench.flash));
-    let at = lent_record(out, at, bench);
-    let at = state(out, at, n);
-    let at = area(out, at, f);
-    let at = summed(out, at, b"room", first(room, bench.room));
-    bench.out = at;
-    bench
+    out: &mut impl Write,
+) -> io::Result<()> {
+    summed(out, b"flash", first(flash, bench.flash))?;
+    lent_record(out, bench)?;
+    state(out, bench.numbers)?;
+    area(out, f)?;
+    summed(out, b"room", first(room, bench.room))
 }

@@ -3,37 +3,38 @@ use crate::module::Bench;
 use crate::{app, hearing, module, show, silence, starting};
 use device_feed::{Passed, feed_in};
 use device_replies::{Said, numbers_of};
+use std::io;
+use std::io::Write;
 use store_flash::cells::first;
 use store_flash::storage::Page;
 use wire_frames::frame::FrameBytes;
 
-// The bench after a call, how many bytes it took, and whether the rest may be handed in.
+// How many bytes a call took, and whether the rest may be handed in.
 #[derive(Drop)]
 struct Called {
-    bench: Bench,
     taken: usize,
     more: bool,
 }
 
 // Which answer it is, the bytes taken, the reply's length, and the wait.
-fn counted(out: &mut [u8], at: usize, said: Said, taken: usize) -> usize {
-    let at = show::decimal(out, at, said.number as u64);
-    let at = show::next_decimal(out, at, taken as u64);
-    let at = show::next_decimal(out, at, said.len as u64);
-    show::next_decimal(out, at, said.wait as u64)
+fn counted(out: &mut impl Write, said: &Said, taken: usize) -> io::Result<()> {
+    show::decimal(out, said.number as u64)?;
+    show::next_decimal(out, taken as u64)?;
+    show::next_decimal(out, said.len as u64)?;
+    show::next_decimal(out, said.wait as u64)
 }
 
-fn tell(out: &mut [u8], at: usize, said: Said, taken: usize, room: &[u8]) -> usize {
-    let at = counted(out, at, said, taken);
-    let at = show::byte(out, at, b' ');
-    let at = starting::mode(out, at, starting::mode_of(said.mode));
-    let at = silence::reason(out, at, said.why);
-    show::end(out, at, first(room, said.len))
+fn tell(out: &mut impl Write, said: &Said, taken: usize, room: &[u8]) -> io::Result<()> {
+    counted(out, said, taken)?;
+    show::byte(out, b' ')?;
+    starting::mode(out, starting::mode_of(said.mode))?;
+    silence::reason(out, said.why)?;
+    show::end(out, first(room, said.len))
 }
 
 // The bootloader's call, on what is lent.
 fn boot_fed(
-    bench: Bench,
+    bench: &Bench,
     bytes: &[u8],
     f: &mut FrameBytes,
     page: &mut Page,
@@ -60,7 +61,7 @@ fn boot_fed(
 
 // The call of the one that runs.
 fn fed(
-    bench: Bench,
+    bench: &Bench,
     bytes: &[u8],
     f: &mut FrameBytes,
     page: &mut Page,
@@ -75,33 +76,29 @@ fn fed(
 }
 
 // The call's line, and what the desk hears of its reply.
-fn told(bench: Bench, p: Passed, room: &[u8], out: &mut [u8]) -> Called {
-    let mut bench = bench;
+fn told(bench: &mut Bench, p: Passed, room: &[u8], out: &mut impl Write) -> io::Result<Called> {
+    let taken = p.taken;
     let answer = p.answer;
     let s = numbers_of(answer);
-    let at = tell(out, bench.out, s, p.taken, room);
-    let n = p.numbers;
-    bench.numbers = n;
-    bench.out = at;
-    let after = hearing::replied(bench, first(room, s.len), out);
-    Called {
-        bench: after,
-        taken: p.taken,
+    tell(out, &s, taken, room)?;
+    bench.numbers = p.numbers;
+    hearing::replied(bench, first(room, s.len), out)?;
+    Ok(Called {
+        taken,
         more: s.number < 3,
-    }
+    })
 }
 
 // One call, and its line.
 fn call(
-    bench: Bench,
+    bench: &mut Bench,
     bytes: &[u8],
     f: &mut FrameBytes,
     page: &mut Page,
     flash: &mut [u8],
     room: &mut [u8],
-    out: &mut [u8],
-) -> Called {
-    let mut bench = bench;
+    out: &mut impl Write,
+) -> io::Result<Called> {
     let mut meta = bench.meta;
     let p = fed(bench, bytes, f, page, flash, &mut meta, room);
     bench.meta = meta;
@@ -109,34 +106,31 @@ fn call(
 }
 
 pub(crate) fn once(
-    bench: Bench,
+    bench: &mut Bench,
     bytes: &[u8],
     f: &mut FrameBytes,
     page: &mut Page,
     flash: &mut [u8],
     room: &mut [u8],
-    out: &mut [u8],
-) -> Bench {
-    let c = call(bench, bytes, f, page, flash, room, out);
-    let after = c.bench;
-    after
+    out: &mut impl Write,
+) -> io::Result<()> {
+    call(bench, bytes, f, page, flash, room, out)?;
+    Ok(())
 }
 
 // At least one call; then what it did not take is handed in again, until none is left, a restart is due, or a call refuses or takes nothing.
 pub(crate) fn all(
-    bench: Bench,
+    bench: &mut Bench,
     bytes: &[u8],
     f: &mut FrameBytes,
     page: &mut Page,
     flash: &mut [u8],
     room: &mut [u8],
-    out: &mut [u8],
-) -> Bench {
-    let mut bench = bench;
+    out: &mut impl Write,
+) -> io::Result<()> {
     let mut at: usize = 0;
     loop {
-        let c = call(bench, &bytes[at..], f, page, flash, room, out);
-        bench = c.bench;
+        let c = call(bench, &bytes[at..], f, page, flash, room, out)?;
         let n = c.taken;
         if n == 0 || !c.more {
             break;
@@ -146,5 +140,5 @@ pub(crate) fn all(
         }
         at += n;
     }
-    bench
+    Ok(())
 }

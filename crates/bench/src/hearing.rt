@@ -2,13 +2,15 @@
 use crate::module::Bench;
 use crate::show;
 use desk_replies::{Contents, Head, Heard, data_of, hear_in};
+use std::io;
+use std::io::Write;
 use wire_frames::frame::FrameBytes;
 use wire_info::InfoData;
 
 // A call's number, and the bytes that it took.
-fn counted(out: &mut [u8], at: usize, number: u64, taken: usize) -> usize {
-    let at = show::text(out, at, b"heard");
-    show::numbers(out, at, &[number, taken as u64])
+fn counted(out: &mut impl Write, number: u64, taken: usize) -> io::Result<()> {
+    show::text(out, b"heard")?;
+    show::numbers(out, &[number, taken as u64])
 }
 
 fn info_of(info: InfoData) -> [u64; 8] {
@@ -24,102 +26,101 @@ fn info_of(info: InfoData) -> [u64; 8] {
     ]
 }
 
-fn named(out: &mut [u8], at: usize, name: &[u8], data: &[u8]) -> usize {
-    let at = show::text(out, at, name);
-    show::end(out, at, data)
+fn named(out: &mut impl Write, name: &[u8], data: &[u8]) -> io::Result<()> {
+    show::text(out, name)?;
+    show::end(out, data)
 }
 
-fn typed(out: &mut [u8], at: usize, contents: Contents, data: &[u8]) -> usize {
+fn typed(out: &mut impl Write, contents: Contents, data: &[u8]) -> io::Result<()> {
     match contents {
         Contents::Info { info } => {
-            let at = show::text(out, at, b" info");
-            let at = show::numbers(out, at, &info_of(info));
-            show::byte(out, at, b'\n')
+            show::text(out, b" info")?;
+            show::numbers(out, &info_of(info))?;
+            show::byte(out, b'\n')
         }
         Contents::Verify { crc } => {
-            let at = show::text(out, at, b" verify");
-            let at = show::next_decimal(out, at, crc as u64);
-            show::byte(out, at, b'\n')
+            show::text(out, b" verify")?;
+            show::next_decimal(out, crc as u64)?;
+            show::byte(out, b'\n')
         }
-        Contents::Select => named(out, at, b" select", data),
-        Contents::Plain => named(out, at, b" plain", data),
+        Contents::Select => named(out, b" select", data),
+        Contents::Plain => named(out, b" plain", data),
     }
 }
 
-fn request(out: &mut [u8], at: usize, head: Head, data: &[u8]) -> usize {
+// The data stand in the frame.
+fn request(out: &mut impl Write, head: Head, f: &[u8]) -> io::Result<()> {
     let list = [head.cmd as u64, head.addr as u64, head.flags as u64];
-    let at = show::numbers(out, at, &list);
-    show::end(out, at, data)
+    show::numbers(out, &list)?;
+    show::end(out, data_of(f, head))
 }
 
-fn reply(out: &mut [u8], at: usize, head: Head, contents: Contents, data: &[u8]) -> usize {
+fn reply(out: &mut impl Write, head: Head, contents: Contents, f: &[u8]) -> io::Result<()> {
     let list = [
         head.cmd as u64,
         head.status as u64,
         head.addr as u64,
         head.flags as u64,
     ];
-    let at = show::numbers(out, at, &list);
-    typed(out, at, contents, data)
+    show::numbers(out, &list)?;
+    typed(out, contents, data_of(f, head))
 }
 
 // A call's line. The desk's frame is always a true beginning, so that no call refuses it.
-fn told(out: &mut [u8], at: usize, heard: Heard, taken: usize, f: &[u8]) -> usize {
+fn told(out: &mut impl Write, heard: Heard, taken: usize, f: &[u8]) -> io::Result<()> {
     match heard {
         Heard::Nothing => {
-            let at = counted(out, at, 0, taken);
-            show::byte(out, at, b'\n')
+            counted(out, 0, taken)?;
+            show::byte(out, b'\n')
         }
         Heard::Request { head } => {
-            let at = counted(out, at, 1, taken);
-            request(out, at, head, data_of(f, head))
+            counted(out, 1, taken)?;
+            request(out, head, f)
         }
         Heard::Reply { head, contents } => {
-            let at = counted(out, at, 2, taken);
-            reply(out, at, head, contents, data_of(f, head))
+            counted(out, 2, taken)?;
+            reply(out, head, contents, f)
         }
         Heard::Faulty { status } => {
-            let at = counted(out, at, 3, taken);
-            let at = show::next_decimal(out, at, status as u64);
-            show::byte(out, at, b'\n')
+            counted(out, 3, taken)?;
+            show::next_decimal(out, status as u64)?;
+            show::byte(out, b'\n')
         }
         Heard::Refused => {
-            let at = counted(out, at, 11, taken);
-            show::byte(out, at, b'\n')
+            counted(out, 11, taken)?;
+            show::byte(out, b'\n')
         }
     }
 }
 
-// How many bytes of the desk's frame have begun, how many of the piece were taken, and the place in the output.
+// How many bytes of the desk's frame have begun, and how many of the piece were taken.
 #[derive(Drop)]
 struct Listened {
     got: usize,
     taken: usize,
-    out: usize,
 }
 
 // One call, and its line.
-fn call(out: &mut [u8], at: usize, f: &mut FrameBytes, got: usize, bytes: &[u8]) -> Listened {
+fn call(
+    out: &mut impl Write,
+    f: &mut FrameBytes,
+    got: usize,
+    bytes: &[u8],
+) -> io::Result<Listened> {
     let p = hear_in(f, got, bytes);
-    let heard = p.heard;
-    let at = told(out, at, heard, p.taken, f);
-    Listened {
-        got: p.got,
-        taken: p.taken,
-        out: at,
-    }
+    let got = p.got;
+    let taken = p.taken;
+    told(out, p.heard, taken, f)?;
+    Ok(Listened { got, taken })
 }
 
-// At least one call; then what it did not take is handed in again, until none is left.
-fn all(out: &mut [u8], at: usize, f: &mut FrameBytes, got: usize, bytes: &[u8]) -> Listened {
-    let mut h = Listened {
-        got: got,
-        taken: 0,
-        out: at,
-    };
+// At least one call; then what it did not take is handed in again, until none is left. How many bytes of the frame have begun then.
+fn all(out: &mut impl Write, f: &mut FrameBytes, got: usize, bytes: &[u8]) -> io::Result<usize> {
+    let mut got = got;
     let mut from: usize = 0;
     loop {
-        h = call(out, h.out, f, h.got, &bytes[from..]);
+        let h = call(out, f, got, &bytes[from..])?;
+        got = h.got;
         let n = h.taken;
         if n == 0 {
             break;
@@ -129,28 +130,23 @@ fn all(out: &mut [u8], at: usize, f: &mut FrameBytes, got: usize, bytes: &[u8]) 
         }
         from += n;
     }
-    h
+    Ok(got)
 }
 
 // The line `h`.
-pub(crate) fn hear(bench: Bench, bytes: &[u8], out: &mut [u8]) -> Bench {
-    let mut bench = bench;
-    let mut desk = bench.desk;
-    let got = desk.got;
-    let h = all(out, bench.out, &mut desk.bytes, got, bytes);
-    desk.got = h.got;
-    bench.desk = desk;
-    bench.out = h.out;
-    bench
+pub(crate) fn hear(bench: &mut Bench, bytes: &[u8], out: &mut impl Write) -> io::Result<()> {
+    let got = bench.desk.got;
+    bench.desk.got = all(out, &mut bench.desk.bytes, got, bytes)?;
+    Ok(())
 }
 
 // What the module replied to the desk, where there is a reply and the desk has asked.
-pub(crate) fn replied(bench: Bench, reply: &[u8], out: &mut [u8]) -> Bench {
+pub(crate) fn replied(bench: &mut Bench, reply: &[u8], out: &mut impl Write) -> io::Result<()> {
     if !bench.asks {
-        return bench;
+        return Ok(());
     }
-    if reply.len() == 0 {
-        return bench;
+    if reply.is_empty() {
+        return Ok(());
     }
     hear(bench, reply, out)
 }

@@ -1,9 +1,10 @@
 // The input, read in blocks and handed out line by line.
-ghost use Rattle.std.specs.Prelude.{◌≤◌, length};
+ghost use Rattle.std.specs.Prelude.{◌≤◌, length, IfOk};
 
 use crate::line;
 use crate::line::Line;
-use libc::STDIN_FILENO;
+use std::io;
+use std::io::Read;
 
 // What is unread of the block: from here to there. An end of 0 after a read is the end of the input.
 #[derive(Drop)]
@@ -22,51 +23,55 @@ pub struct Taken {
 }
 
 // Reads where nothing is left unread.
-fn refilled(block: &mut [u8], at: usize, end: usize) -> Place
+fn refilled(input: &mut impl Read, block: &mut [u8], at: usize, end: usize) -> io::Result<Place>
     requires { (at ≤ end) × (end ≤ length block.old) }
-    ensures { (result.at ≤ result.end) × (result.end ≤ length block.new) }
+    ensures { IfOk result (λ p. (p.at ≤ p.end) × (p.end ≤ length block.new)) }
 {
     if at < end {
-        return Place { at, end };
+        return Ok(Place { at, end });
     }
-    let got = libc::read(STDIN_FILENO, block);
-    let n = io::count(got, block);
-    Place { at: 0, end: n }
+    let n = input.read(block)?;
+    Ok(Place { at: 0, end: n })
 }
 
-// Line `number`, the next. A proved loop has to end, and a line may be of any length, so the reads are counted from a number that no run uses up.
-pub(crate) fn next(number: u64, block: &mut [u8], at: usize, end: usize, bytes: &mut [u8]) -> Taken
+// Line `number`, the next. A proved loop has to end, and a line may be of any length, so the reads are counted up to a number that no run comes to.
+pub(crate) fn next(
+    input: &mut impl Read,
+    number: u64,
+    block: &mut [u8],
+    at: usize,
+    end: usize,
+    bytes: &mut [u8],
+) -> io::Result<Taken>
     requires { (at ≤ end) × (end ≤ length block.old) }
-    ensures { (result.at ≤ result.end) × (result.end ≤ length block.new) }
+    ensures { IfOk result (λ t. (t.at ≤ t.end) × (t.end ≤ length block.new)) }
 {
     let mut line = Line::new(number);
     let mut at = at;
     let mut end = end;
-    let mut reads = u64::MAX;
-    while reads > 0 {
-        let p = refilled(block, at, end);
+    for _ in 0..u64::MAX {
+        let p = refilled(input, block, at, end)?;
         at = p.at;
         end = p.end;
         let s = line::scan(line, &block[at..end], bytes);
         line = s.line;
         at += s.taken;
         if s.ended {
-            return Taken {
+            return Ok(Taken {
                 line,
                 at,
                 end,
                 last: false,
-            };
+            });
         }
         if end == 0 {
             break;
         }
-        reads -= 1;
     }
-    Taken {
+    Ok(Taken {
         line,
         at,
         end,
         last: true,
-    }
+    })
 }

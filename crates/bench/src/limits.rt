@@ -47,6 +47,7 @@ fn from_to(least: usize, most: usize) -> Count
 }
 
 // How many bytes a line of this letter may have: where there is no such letter from 1 to 0, which no line has.
+#[tactic(auto, unfolding(crate::specs::Limits::carried))]
 pub(crate) fn count_of(letter: u8) -> Count
     ensures { (n : ℕ) → between result.least result.most n ≡ carried letter n }
 {
@@ -128,6 +129,7 @@ fn is_settable(runs: bool, field: u8, value: u32) -> bool
     false
 }
 
+#[tactic(auto, unfolding(crate::specs::Limits::within))]
 fn is_within(runs: bool, letter: u8, bytes: &[u8]) -> bool
     ensures { result ≡ within runs letter bytes.now }
 {

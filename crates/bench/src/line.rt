@@ -4,7 +4,7 @@ ghost use Rattle.std.specs.Prelude.{◌≤◌, length};
 use crate::digits;
 
 // As far as the line has been read. `bytes`, lent beside it, holds what it carries.
-#[derive(Drop)]
+#[derive(Clone, Copy)]
 pub struct Line {
     // Which line of the script it is.
     pub number: u64,
@@ -160,22 +160,19 @@ pub(crate) fn scan(line: Line, part: &[u8], bytes: &mut [u8]) -> Scanned
     ensures { result.taken ≤ length part.now }
 {
     let mut line = line;
-    let mut i: usize = 0;
-    while i < part.len() {
-        let c = part[i];
-        i += 1;
-        if c == b'\n' {
+    for (i, c) in part.iter().enumerate() {
+        if *c == b'\n' {
             return Scanned {
                 line,
-                taken: i,
+                taken: i + 1,
                 ended: true,
             };
         }
-        line = line.read(c, bytes);
+        line = line.read(*c, bytes);
     }
     Scanned {
         line,
-        taken: i,
+        taken: part.len(),
         ended: false,
     }
 }

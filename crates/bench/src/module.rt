@@ -1,7 +1,6 @@
 // The module on the bench: its setup, the numbers of its state, its record, whether the app runs, and the frame of the desk at the other end. The module's
 // longer arrays, the frame's and the page's 64 bytes, flash and reply room, are lent beside it, so that no call copies them.
-ghost use Rattle.std.specs.Prelude.{◌≤◌};
-ghost use Rattle.io.specs.Counts.{IsPrefixLen};
+ghost use Rattle.std.specs.Prelude.{◌≡◌, ◌≤◌, length, take};
 
 use crate::{limits, numbers};
 use device_start::new_state;
@@ -27,8 +26,6 @@ pub struct Bench {
     pub flash: usize,
     pub record: usize,
     pub room: usize,
-    // The place of the next byte in the output.
-    pub out: usize,
 }
 
 fn least(a: usize, b: usize) -> usize
@@ -39,7 +36,7 @@ fn least(a: usize, b: usize) -> usize
 
 // How much of a buffer is lent. It takes the buffer, so that a part of that length can be lent with no proof.
 pub(crate) fn lent(most: usize, buffer: &[u8]) -> usize
-    ensures { IsPrefixLen result buffer.now }
+    ensures { (result ≤ length buffer.now) × (result ≡ length (take result buffer.now)) }
 {
     least(most, buffer.len())
 }
@@ -98,22 +95,18 @@ fn fill(s: &mut [u8], b: u8) {
 }
 
 // The bootloader's state is the bench's from now on.
-pub(crate) fn adopted(bench: Bench, state: State, f: &mut FrameBytes, page: &mut Page) -> Bench {
-    let mut bench = bench;
+pub(crate) fn adopted(bench: &mut Bench, state: State, f: &mut FrameBytes, page: &mut Page) {
     let bytes = state.frame;
     let filled = state.page;
-    let n = state.numbers;
     *f = bytes;
     *page = filled;
-    bench.numbers = n;
+    bench.numbers = state.numbers;
     bench.runs = false;
-    bench
 }
 
-// A new bench. The output goes on where it stood.
+// A new bench.
 pub(crate) fn renewed(
     setup: Setup,
-    out: usize,
     f: &mut FrameBytes,
     page: &mut Page,
     flash: &mut [u8],
@@ -122,23 +115,20 @@ pub(crate) fn renewed(
     fill(flash, 0xFF);
     fill(room, 0);
     let state = new_state(false);
-    let n = state.numbers;
-    let meta = [0xFFu8; limits::RECORD];
-    let desk = Frame::new();
-    let bench = Bench {
+    let mut bench = Bench {
         setup: setup,
-        numbers: n,
+        numbers: state.numbers,
         runs: false,
         app_version: 0,
-        meta: meta,
-        desk: desk,
+        meta: [0xFFu8; limits::RECORD],
+        desk: Frame::new(),
         asks: false,
         flash: least(setup.capacity, limits::FLASH),
         record: 12,
         room: FRAME,
-        out: out,
     };
-    adopted(bench, state, f, page)
+    adopted(&mut bench, state, f, page);
+    bench
 }
 
 // The bytes past the first so many, which a line within its limits has.

@@ -2,17 +2,16 @@
 use crate::module::Bench;
 use crate::{module, show};
 use app_record::{RateRead, baud, confirm, set_baud, stored_number};
+use std::io;
+use std::io::Write;
 use store_flash::cells::first;
 use wire_rates::{BaudFound, BaudRate};
 
 // What a call says, behind its name.
-fn tell(bench: Bench, name: &[u8], number: u64, out: &mut [u8]) -> Bench {
-    let mut bench = bench;
-    let at = show::text(out, bench.out, name);
-    let at = show::next_decimal(out, at, number);
-    let at = show::byte(out, at, b'\n');
-    bench.out = at;
-    bench
+fn tell(out: &mut impl Write, name: &[u8], number: u64) -> io::Result<()> {
+    show::text(out, name)?;
+    show::next_decimal(out, number)?;
+    show::byte(out, b'\n')
 }
 
 // The rate of an index, which a line within its limits has.
@@ -23,22 +22,20 @@ fn rate_of(index: u8) -> BaudRate {
     }
 }
 
-fn confirmed(bench: Bench, out: &mut [u8]) -> Bench {
-    let mut bench = bench;
+fn confirmed(bench: &mut Bench, out: &mut impl Write) -> io::Result<()> {
     let mut meta = bench.meta;
     let n = module::lent(bench.record, &meta);
     let stored = confirm(&mut meta[..n]);
     bench.meta = meta;
-    tell(bench, b"confirm", stored_number(stored) as u64, out)
+    tell(out, b"confirm", stored_number(stored) as u64)
 }
 
-fn stored(bench: Bench, rate: BaudRate, out: &mut [u8]) -> Bench {
-    let mut bench = bench;
+fn stored(bench: &mut Bench, rate: BaudRate, out: &mut impl Write) -> io::Result<()> {
     let mut meta = bench.meta;
     let n = module::lent(bench.record, &meta);
     let stored = set_baud(&mut meta[..n], rate);
     bench.meta = meta;
-    tell(bench, b"baud", stored_number(stored) as u64, out)
+    tell(out, b"baud", stored_number(stored) as u64)
 }
 
 // The bits per second, or the refusal's number.
@@ -49,14 +46,19 @@ fn hz_of(read: RateRead) -> u64 {
     }
 }
 
-fn read(bench: Bench, default: BaudRate, out: &mut [u8]) -> Bench {
+fn read(bench: &Bench, default: BaudRate, out: &mut impl Write) -> io::Result<()> {
     let meta = bench.meta;
     let read = baud(first(&meta, bench.record), default);
-    tell(bench, b"rate", hz_of(read), out)
+    tell(out, b"rate", hz_of(read))
 }
 
 // The lines `k`, `g` and `y`.
-pub(crate) fn ask(bench: Bench, letter: u8, index: u8, out: &mut [u8]) -> Bench {
+pub(crate) fn ask(
+    bench: &mut Bench,
+    letter: u8,
+    index: u8,
+    out: &mut impl Write,
+) -> io::Result<()> {
     match letter {
         b'k' => confirmed(bench, out),
         b'g' => stored(bench, rate_of(index), out),

@@ -1,83 +1,56 @@
-// What is printed is collected in a buffer, and written where that is full, before more input is waited for, and at the end. `at` is the place of the next
-// byte.
+// What is printed, part by part. The writer collects it: it goes out where that is full, before more input is waited for, and at the end.
 use crate::digits;
-use libc::STDOUT_FILENO;
+use std::io;
+use std::io::Write;
 
-// What the buffer holds goes out.
-pub(crate) fn flush(out: &[u8], at: usize) {
-    io::write_all(STDOUT_FILENO, store_flash::cells::first(out, at));
+pub(crate) fn byte(out: &mut impl Write, b: u8) -> io::Result<()> {
+    out.write_all(&[b])
 }
 
-pub(crate) fn byte(out: &mut [u8], at: usize, b: u8) -> usize {
-    if at < out.len() {
-        out[at] = b;
-        return at + 1;
-    }
-    flush(out, at);
-    store_flash::cells::put(out, 0, b);
-    1
+pub(crate) fn text(out: &mut impl Write, s: &[u8]) -> io::Result<()> {
+    out.write_all(s)
 }
 
-pub(crate) fn text(out: &mut [u8], at: usize, s: &[u8]) -> usize {
-    let mut at = at;
-    let mut i: usize = 0;
-    while i < s.len() {
-        at = byte(out, at, s[i]);
-        i += 1;
-    }
-    at
-}
-
-pub(crate) fn decimal(out: &mut [u8], at: usize, n: u64) -> usize {
-    let mut digits = [0u8; 20];
-    let k = io::decimal(n, &mut digits);
-    text(out, at, &digits[..k])
+pub(crate) fn decimal(out: &mut impl Write, n: u64) -> io::Result<()> {
+    write!(out, "{n}")
 }
 
 // A blank, and the number.
-pub(crate) fn next_decimal(out: &mut [u8], at: usize, n: u64) -> usize {
-    let at = byte(out, at, b' ');
-    decimal(out, at, n)
+pub(crate) fn next_decimal(out: &mut impl Write, n: u64) -> io::Result<()> {
+    write!(out, " {n}")
 }
 
 // The numbers, a blank before each.
-pub(crate) fn numbers(out: &mut [u8], at: usize, list: &[u64]) -> usize {
-    let mut at = at;
-    let mut i: usize = 0;
-    while i < list.len() {
-        at = next_decimal(out, at, list[i]);
-        i += 1;
+pub(crate) fn numbers(out: &mut impl Write, list: &[u64]) -> io::Result<()> {
+    for n in list {
+        next_decimal(out, *n)?;
     }
-    at
+    Ok(())
 }
 
-pub(crate) fn pair(out: &mut [u8], at: usize, b: u8) -> usize {
-    let at = byte(out, at, digits::upper(b / 16));
-    byte(out, at, digits::upper(b % 16))
+pub(crate) fn pair(out: &mut impl Write, b: u8) -> io::Result<()> {
+    out.write_all(&[digits::upper(b / 16), digits::upper(b % 16)])
 }
 
-pub(crate) fn hex(out: &mut [u8], at: usize, s: &[u8]) -> usize {
-    let mut at = at;
-    let mut i: usize = 0;
-    while i < s.len() {
-        at = pair(out, at, s[i]);
-        i += 1;
+pub(crate) fn hex(out: &mut impl Write, s: &[u8]) -> io::Result<()> {
+    for b in s {
+        pair(out, *b)?;
     }
-    at
+    Ok(())
 }
 
 // The bytes, where there are any, after a blank; and the line's end.
-pub(crate) fn end(out: &mut [u8], at: usize, s: &[u8]) -> usize {
-    if s.len() == 0 {
-        return byte(out, at, b'\n');
+pub(crate) fn end(out: &mut impl Write, s: &[u8]) -> io::Result<()> {
+    if s.is_empty() {
+        return byte(out, b'\n');
     }
-    let at = byte(out, at, b' ');
-    let at = hex(out, at, s);
-    byte(out, at, b'\n')
+    byte(out, b' ')?;
+    hex(out, s)?;
+    byte(out, b'\n')
 }
 
 // Four digits.
-pub(crate) fn hex16(out: &mut [u8], at: usize, v: u16) -> usize {
-    let at = pair(out, at, (v / 256) as u8);
-    pair(out, at, (v % 256) as u8)
+pub(crate) fn hex16(out: &mut impl Write, v: u16) -> io::Result<()> {
+    pair(out, (v / 256) as u8)?;
+    pair(out, (v % 256) as u8)
 }

@@ -3,6 +3,8 @@ use crate::module::Bench;
 use crate::{module, show};
 use device_start::{Started, start};
 use device_state::refusal::refusal_number;
+use std::io;
+use std::io::Write;
 use store_flash::cells::first;
 use store_flash::storage::Page;
 use wire_frames::frame::FrameBytes;
@@ -15,29 +17,29 @@ pub(crate) fn mode_of(b: u8) -> RunMode {
     RunMode::Service
 }
 
-pub(crate) fn mode(out: &mut [u8], at: usize, mode: RunMode) -> usize {
+pub(crate) fn mode(out: &mut impl Write, mode: RunMode) -> io::Result<()> {
     match mode {
-        RunMode::HandOff => show::text(out, at, b"handoff"),
-        RunMode::Service => show::text(out, at, b"service"),
+        RunMode::HandOff => show::text(out, b"handoff"),
+        RunMode::Service => show::text(out, b"service"),
     }
 }
 
-fn outcome(out: &mut [u8], at: usize, refused: u64, decision: RunMode) -> usize {
+fn outcome(out: &mut impl Write, refused: u64, decision: RunMode) -> io::Result<()> {
     if refused == 0 {
-        return mode(out, at, decision);
+        return mode(out, decision);
     }
-    show::decimal(out, at, refused)
+    show::decimal(out, refused)
 }
 
 // The refusal's number, or the mode.
-fn tell(out: &mut [u8], at: usize, refused: u64, decision: RunMode) -> usize {
-    let at = show::text(out, at, b"start ");
-    let at = outcome(out, at, refused, decision);
-    show::byte(out, at, b'\n')
+fn tell(out: &mut impl Write, refused: u64, decision: RunMode) -> io::Result<()> {
+    show::text(out, b"start ")?;
+    outcome(out, refused, decision)?;
+    show::byte(out, b'\n')
 }
 
 // The call, on what is lent.
-fn started(bench: Bench, asked: u8, flash: &[u8], meta: &mut [u8]) -> Started {
+fn started(bench: &Bench, asked: u8, flash: &[u8], meta: &mut [u8]) -> Started {
     let setup = bench.setup;
     let n = module::lent(bench.record, meta);
     start(
@@ -49,21 +51,18 @@ fn started(bench: Bench, asked: u8, flash: &[u8], meta: &mut [u8]) -> Started {
 }
 
 pub(crate) fn begin(
-    bench: Bench,
+    bench: &mut Bench,
     asked: u8,
     f: &mut FrameBytes,
     page: &mut Page,
     flash: &[u8],
-    out: &mut [u8],
-) -> Bench {
-    let mut bench = bench;
+    out: &mut impl Write,
+) -> io::Result<()> {
     let mut meta = bench.meta;
     let s = started(bench, asked, flash, &mut meta);
     let refusal = s.refusal;
     let decision = s.mode;
-    let at = tell(out, bench.out, refusal_number(refusal) as u64, decision);
     bench.meta = meta;
-    bench.out = at;
-    let state = s.state;
-    module::adopted(bench, state, f, page)
+    module::adopted(bench, s.state, f, page);
+    tell(out, refusal_number(refusal) as u64, decision)
 }

@@ -2,6 +2,8 @@
 use crate::module::Bench;
 use crate::{module, numbers, show};
 use desk_requests::{Request, Written, write_request};
+use std::io;
+use std::io::Write;
 use store_flash::cells::{byte_at, first};
 use wire_numbers::{Cmd, CmdFound};
 
@@ -23,53 +25,53 @@ fn request_of(bytes: &[u8]) -> Request {
 }
 
 // The call, on what is lent.
-fn put(bench: Bench, bytes: &[u8], room: &mut [u8]) -> Written {
+fn put(bench: &Bench, bytes: &[u8], room: &mut [u8]) -> Written {
     let n = module::lent(bench.room, room);
     write_request(request_of(bytes), module::after(bytes, 6), &mut room[..n])
 }
 
-fn len_of(said: Written) -> usize {
+// How many bytes the request has: none where it was refused.
+fn len_of(said: &Written) -> usize {
     match said {
-        Written::Done { len } => len,
+        Written::Done { len } => *len,
         Written::NoRoom => 0,
         Written::TooLarge => 0,
     }
 }
 
-fn told(out: &mut [u8], at: usize, said: Written, room: &[u8]) -> usize {
+fn told(out: &mut impl Write, said: Written, room: &[u8]) -> io::Result<()> {
     match said {
         Written::Done { len } => {
-            let at = show::decimal(out, at, 0);
-            let at = show::next_decimal(out, at, len as u64);
-            show::end(out, at, first(room, len))
+            show::decimal(out, 0)?;
+            show::next_decimal(out, len as u64)?;
+            show::end(out, first(room, len))
         }
-        Written::NoRoom => show::text(out, at, b"14\n"),
-        Written::TooLarge => show::text(out, at, b"20\n"),
+        Written::NoRoom => show::text(out, b"14\n"),
+        Written::TooLarge => show::text(out, b"20\n"),
     }
 }
 
-// The bench with the line printed, and how many bytes the request has: none where it was refused.
-#[derive(Drop)]
-pub struct Wrote {
-    pub bench: Bench,
-    pub len: usize,
-}
-
-pub(crate) fn write(bench: Bench, bytes: &[u8], room: &mut [u8], out: &mut [u8]) -> Wrote {
-    let mut bench = bench;
+// The request and its line; how many bytes it has.
+pub(crate) fn write(
+    bench: &Bench,
+    bytes: &[u8],
+    room: &mut [u8],
+    out: &mut impl Write,
+) -> io::Result<usize> {
     let said = put(bench, bytes, room);
-    let at = show::text(out, bench.out, b"wrote ");
-    let at = told(out, at, said, room);
-    bench.out = at;
-    Wrote {
-        bench: bench,
-        len: len_of(said),
-    }
+    let len = len_of(&said);
+    show::text(out, b"wrote ")?;
+    told(out, said, room)?;
+    Ok(len)
 }
 
 // The line `w`.
-pub(crate) fn only(bench: Bench, bytes: &[u8], room: &mut [u8], out: &mut [u8]) -> Bench {
-    let w = write(bench, bytes, room, out);
-    let after = w.bench;
-    after
+pub(crate) fn only(
+    bench: &Bench,
+    bytes: &[u8],
+    room: &mut [u8],
+    out: &mut impl Write,
+) -> io::Result<()> {
+    write(bench, bytes, room, out)?;
+    Ok(())
 }

@@ -15,7 +15,7 @@ app_setup_size = 33
 abbrev pub app_state_size : ℕ → ℕ
 app_state_size cap = 12 + cap + 3
 
--- the setup that 33 bytes stand for: the first 31 as in a bootloader's (c_layout, setupFrom), then the app version
+-- the setup that 33 bytes stand for: the first 31 as in a bootloader's (c_layout, setup_from), then the app version
 abbrev pub app_setup_from : List ℕ → AppSetup
 app_setup_from l =
     record {

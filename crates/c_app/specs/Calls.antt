@@ -1,8 +1,7 @@
 -- What the app's calls leave in a C program's buffers, of a setup by value (tinyboot_c/include/tinyboot.h, The app). The order of the refusals is that of their
 -- numbers: beside those of the app's feed, a buffer that is no state's (11), and too little room for an answer, which counts as no room (14). `cap` is the
 -- payload capacity, `page` the page size.
-use Rattle.std.specs.Prelude.{ℕ, ◌+◌, not, List, length, get_or, eqb, ltb}
-use Rattle.laws.specs.Pick.{if◌then◌else◌}
+use Rattle.std.specs.Prelude.{ℕ, ◌+◌, not, List, length, get_or, eqb, ltb, if◌then◌else◌}
 use Rattle.laws.specs.Over.{over}
 use Rattle.wire_rates.specs.Baud.{rates}
 use Rattle.device_replies.specs.Answers.{mute}

@@ -1,5 +1,7 @@
 // The running app's calls on a C program's state, record and answer, of a setup by value. Ours: the Rust has no such interface.
 
+#![tactic(auto)]
+
 ghost use Rattle.std.specs.Prelude.{◌≡◌, ◌≤◌, ◌++◌, eqb, length};
 ghost use Rattle.app_state.specs.State.{state_with};
 ghost use Rattle.app_state.specs.Refusals.{app_set_up};
@@ -100,7 +102,7 @@ fn lay_app(s: &mut [u8], f: &FrameBytes, n: AppNumbers)
     ensures { s.new ≡ app_bytes (state_with f.now n) }
 {
     lay_numbers(s, n);
-    bytes::copy(f, s);
+    s[..FRAME].copy_from_slice(f);
 }
 
 // A new state, where the buffer is as long as one.

@@ -1,6 +1,5 @@
 -- What the calls on captures leave for C (02, E12), and where the numbers of what they tell stand.
-use Rattle.std.specs.Prelude.{ℕ, List, ◌∷◌, ◌++◌, length, ltb}
-use Rattle.laws.specs.Pick.{if◌then◌else◌}
+use Rattle.std.specs.Prelude.{ℕ, List, ◌∷◌, ◌++◌, length, ltb, if◌then◌else◌}
 use Rattle.laws.specs.Low.{low_bytes}
 use Rattle.laws.specs.Over.{over}
 use Rattle.desk_captures.specs.declared.Found.{Found}

@@ -1,6 +1,5 @@
 -- What the desk's calls for C leave (02, E1), and where the numbers of what was heard stand. `cap` is the payload capacity.
-use Rattle.std.specs.Prelude.{ℕ, ◌+◌, false, ◌&&◌, List, ◌∷◌, ◌++◌, length, ltb, eqb}
-use Rattle.laws.specs.Pick.{if◌then◌else◌}
+use Rattle.std.specs.Prelude.{ℕ, ◌+◌, false, ◌&&◌, List, ◌∷◌, ◌++◌, length, ltb, eqb, if◌then◌else◌}
 use Rattle.laws.specs.Low.{low_bytes}
 use Rattle.laws.specs.Over.{over}
 use Rattle.wire_frames.specs.Stored.{well_of}

@@ -3,6 +3,7 @@ ghost use Rattle.std.specs.Prelude.{◌≡◌};
 ghost use Rattle.laws.specs.Low.{low_bytes};
 ghost use Rattle.c_desk.specs.Captures.{told, found_bytes, c_next, compared_number, compared_capture, compared_place, compared_bytes, c_compared};
 
+use crate::lay_over;
 use desk_captures::{Compared, Found};
 
 // How many bytes tell what stands at a place, and how two captures compare.
@@ -62,8 +63,7 @@ fn found_bytes(f: Found, after: usize) -> [u8; FOUND_SIZE]
 }
 
 // Lays what stands at a place of a capture.
-#[unsafe(no_mangle)]
-pub extern "C" fn tinyboot_capture_next(capture: &[u8], at: usize, found: &mut [u8]) -> u8
+pub fn tinyboot_capture_next(capture: &[u8], at: usize, found: &mut [u8]) -> u8
     ensures { told result found.new ≡ c_next capture.now at found.old }
 {
     if found.len() < FOUND_SIZE {
@@ -71,7 +71,7 @@ pub extern "C" fn tinyboot_capture_next(capture: &[u8], at: usize, found: &mut [
     }
     let f = desk_captures::next_at(capture, at);
     let new = found_bytes(f, desk_captures::after(capture, at));
-    bytes::copy(&new, found);
+    lay_over(&new, found);
     desk_captures::number_of(f)
 }
 
@@ -143,8 +143,7 @@ fn compared_bytes(c: Compared) -> [u8; COMPARED_SIZE]
 }
 
 // Compares two captures, and lays where the second differs or which fault was met.
-#[unsafe(no_mangle)]
-pub extern "C" fn tinyboot_capture_compare(first: &[u8], second: &[u8], compared: &mut [u8]) -> u8
+pub fn tinyboot_capture_compare(first: &[u8], second: &[u8], compared: &mut [u8]) -> u8
     ensures { told result compared.new ≡ c_compared first.now second.now compared.old }
 {
     if compared.len() < COMPARED_SIZE {
@@ -152,6 +151,6 @@ pub extern "C" fn tinyboot_capture_compare(first: &[u8], second: &[u8], compared
     }
     let c = desk_captures::compare(first, second);
     let new = compared_bytes(c);
-    bytes::copy(&new, compared);
+    lay_over(&new, compared);
     compared_number(c)
 }

@@ -1,8 +1,11 @@
 // The desk's calls for programs in C or Rust: each takes and leaves plain bytes. Ours: the Rust has no such interface.
 
+#![tactic(auto)]
+
 pub mod captures;
 
-ghost use Rattle.std.specs.Prelude.{◌≡◌, ◌^◌, ◌∷◌, [], eqb};
+ghost use Rattle.std.specs.Prelude.{◌≡◌, ◌≤◌, ◌^◌, ◌∷◌, [], eqb, length};
+ghost use Rattle.laws.specs.Over.{over};
 ghost use Rattle.laws.specs.Pick.{pick};
 ghost use Rattle.laws.specs.Low.{low_bytes};
 ghost use Rattle.wire_numbers.specs.declared.Cmd.{Cmd};
@@ -18,6 +21,14 @@ use wire_numbers::{ResetFlags, le};
 // How many bytes tell what was heard.
 pub const HEARD_SIZE: usize = 24;
 
+// The bytes, over the start of a room that holds them.
+fn lay_over(bytes: &[u8], room: &mut [u8])
+    requires { length bytes.now ≤ length room.old }
+    ensures { room.new ≡ over bytes.now room.old }
+{
+    room[..bytes.len()].copy_from_slice(bytes);
+}
+
 fn number(w: Written) -> u8
     ensures { result ≡ written_number w }
 {
@@ -29,22 +40,19 @@ fn number(w: Written) -> u8
 }
 
 // The six requests, each of its own numbers: 0, or the number of a refusal, and then nothing is written.
-#[unsafe(no_mangle)]
-pub extern "C" fn tinyboot_request_info(room: &mut [u8]) -> u8
+pub fn tinyboot_request_info(room: &mut [u8]) -> u8
     ensures { asked result room.new ≡ c_asked (request_of 52 (asks Cmd.Info 0 0) [] room.old) }
 {
     number(desk_requests::info(room))
 }
 
-#[unsafe(no_mangle)]
-pub extern "C" fn tinyboot_request_erase(addr: u32, count: u16, room: &mut [u8]) -> u8
+pub fn tinyboot_request_erase(addr: u32, count: u16, room: &mut [u8]) -> u8
     ensures { asked result room.new ≡ c_asked (request_of 52 (asks Cmd.Erase 0 addr) (low_bytes 2 count) room.old) }
 {
     number(desk_requests::erase(addr, count, room))
 }
 
-#[unsafe(no_mangle)]
-pub extern "C" fn tinyboot_request_write(addr: u32, flush: u8, bytes: &[u8], room: &mut [u8]) -> u8
+pub fn tinyboot_request_write(addr: u32, flush: u8, bytes: &[u8], room: &mut [u8]) -> u8
     ensures { asked result room.new ≡
         c_asked (request_of 52 (asks Cmd.Write (pick (eqb flush 0) 0 (2 ^ 7)) addr) bytes.now room.old) }
 {
@@ -54,22 +62,19 @@ pub extern "C" fn tinyboot_request_write(addr: u32, flush: u8, bytes: &[u8], roo
     number(desk_requests::write(addr, true, bytes, room))
 }
 
-#[unsafe(no_mangle)]
-pub extern "C" fn tinyboot_request_verify(size: u32, room: &mut [u8]) -> u8
+pub fn tinyboot_request_verify(size: u32, room: &mut [u8]) -> u8
     ensures { asked result room.new ≡ c_asked (request_of 52 (asks Cmd.Verify 0 size) [] room.old) }
 {
     number(desk_requests::verify(size, room))
 }
 
-#[unsafe(no_mangle)]
-pub extern "C" fn tinyboot_request_reset(flags: u8, addr: u32, room: &mut [u8]) -> u8
+pub fn tinyboot_request_reset(flags: u8, addr: u32, room: &mut [u8]) -> u8
     ensures { asked result room.new ≡ c_asked (request_of 52 (asks Cmd.Reset flags addr) [] room.old) }
 {
     number(desk_requests::reset(ResetFlags { bits: flags }, addr, room))
 }
 
-#[unsafe(no_mangle)]
-pub extern "C" fn tinyboot_request_select(seed: u8, count: u8, prefix: &[u8], room: &mut [u8]) -> u8
+pub fn tinyboot_request_select(seed: u8, count: u8, prefix: &[u8], room: &mut [u8]) -> u8
     ensures { asked result room.new ≡
         c_asked (request_of 52 (asks Cmd.Select 0 0) (seed ∷ count ∷ prefix.now) room.old) }
 {
@@ -182,8 +187,7 @@ fn unheard(f: &[u8], got: usize) -> u8
 }
 
 // Takes bytes until the first frame has ended, into a frame of which `got` bytes have begun, and lays what was heard.
-#[unsafe(no_mangle)]
-pub extern "C" fn tinyboot_hear(f: &mut [u8], got: usize, bytes: &[u8], heard: &mut [u8]) -> u8
+pub fn tinyboot_hear(f: &mut [u8], got: usize, bytes: &[u8], heard: &mut [u8]) -> u8
     ensures { after_hear result f.new heard.new ≡
         c_heard 52 f.old got bytes.now heard.old }
 {
@@ -193,6 +197,6 @@ pub extern "C" fn tinyboot_hear(f: &mut [u8], got: usize, bytes: &[u8], heard: &
     let p = desk_replies::hear_part(f, got, bytes);
     let h = p.heard;
     let new = heard_bytes(h, p.got, p.taken);
-    bytes::copy(&new, heard);
+    lay_over(&new, heard);
     heard_number(h)
 }

@@ -1,7 +1,6 @@
 -- Where a setup, a state and an answer stand in the caller's bytes (tinyboot_c/include/tinyboot.h, Buffers). Numbers of several bytes stand low byte first.
 -- `cap` is the payload capacity, `page` the page size: the header has them at 52 and 64.
-use Rattle.std.specs.Prelude.{ℕ, ◌+◌, ◌%◌, Bool, ◌&&◌, List, [], ◌∷◌, ◌++◌, length, get_or, take, drop, eqb, ltb}
-use Rattle.laws.specs.Pick.{if◌then◌else◌}
+use Rattle.std.specs.Prelude.{ℕ, ◌+◌, ◌%◌, Bool, ◌&&◌, List, [], ◌∷◌, ◌++◌, length, get_or, take, drop, eqb, ltb, if◌then◌else◌}
 use Rattle.laws.specs.Low.{low_first, low_bytes}
 use Rattle.laws.specs.Over.{over}
 use Rattle.device_state.specs.declared.Setup.{Setup}

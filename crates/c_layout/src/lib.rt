@@ -1,6 +1,8 @@
 // Where a setup, a state and an answer stand in the bytes that a program in C lends, as far as it needs no more than that. Ours: the Rust has no such
 // interface.
 
+#![tactic(auto)]
+
 ghost use Rattle.std.specs.Prelude.{◌≡◌, ◌++◌, ◌∷◌, [], ◌≤◌, eqb, length};
 ghost use Rattle.std.proofs.Math.Seq.{paste};
 ghost use Rattle.laws.specs.Low.{low_bytes};

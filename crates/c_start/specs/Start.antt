@@ -1,8 +1,7 @@
 -- What a start leaves in a C program's buffers, of a setup by value, and what a new state does (tinyboot_c/include/tinyboot.h, Calls). The order of the
 -- refusals is that of their numbers: beside those of the start, a buffer that is not as long as a state is none (11), and too little room for an answer counts
 -- as no room (14).
-use Rattle.std.specs.Prelude.{ℕ, false, not, List, length, eqb, ltb}
-use Rattle.laws.specs.Pick.{if◌then◌else◌}
+use Rattle.std.specs.Prelude.{ℕ, false, not, List, length, eqb, ltb, if◌then◌else◌}
 use Rattle.laws.specs.Over.{over}
 use Rattle.device_state.specs.declared.Setup.{Setup}
 use Rattle.device_state.specs.Refusals.{set_up}

@@ -1,5 +1,7 @@
 // A start of a setup by value on a C program's state, record and answer; and a new state. Ours: the Rust has no such interface.
 
+#![tactic(auto)]
+
 ghost use Rattle.std.specs.Prelude.{◌≡◌, true, ◌≤◌, length};
 ghost use Rattle.wire_numbers.specs.Names.{mode_number};
 ghost use Rattle.laws.specs.Over.{over};
@@ -23,7 +25,7 @@ fn lay_new(s: &mut [u8], closed: bool)
     ensures { s.new ≡ state_bytes (new_state 52 64 closed) }
 {
     let new = new_bytes(closed);
-    bytes::copy(&new, s);
+    s.copy_from_slice(&new);
 }
 
 // An open new state, where the buffer is as long as a state.

@@ -1,6 +1,5 @@
 -- Erase (01, Commands). `page` is the page size of the storage.
-use Rattle.std.specs.Prelude.{ℕ, ◌+◌, ◌%◌, Bool, not, ◌&&◌, List, [], ◌∷◌, get_or, leb, ltb, eqb}
-use Rattle.laws.specs.Pick.{if◌then◌else◌}
+use Rattle.std.specs.Prelude.{ℕ, ◌+◌, ◌%◌, Bool, not, ◌&&◌, List, [], ◌∷◌, get_or, leb, ltb, eqb, if◌then◌else◌}
 use Rattle.laws.specs.Low.{low_first}
 use Rattle.store_flash.specs.Flash.{Cells}
 use Rattle.store_flash.specs.Flash as flash

@@ -1,6 +1,5 @@
 -- Info (01, Commands). `cap` is the payload capacity.
-use Rattle.std.specs.Prelude.{ℕ, ◌-◌, ◌||◌, List, [], ◌∷◌, ◌++◌, get_or, take, drop, ltb}
-use Rattle.laws.specs.Pick.{if◌then◌else◌}
+use Rattle.std.specs.Prelude.{ℕ, ◌-◌, ◌||◌, List, [], ◌∷◌, ◌++◌, get_or, take, drop, ltb, if◌then◌else◌}
 use Rattle.laws.specs.Low.{low_first}
 use Rattle.wire_info.specs.Info.{info_laid_by}
 use Rattle.store_record.specs.Record.{size_of, baud_of}

@@ -1,6 +1,5 @@
 -- Reset (01, Commands).
-use Rattle.std.specs.Prelude.{ℕ, Bool, not, ◌&&◌, ◌||◌, List, get_or}
-use Rattle.laws.specs.Pick.{if◌then◌else◌}
+use Rattle.std.specs.Prelude.{ℕ, Bool, not, ◌&&◌, ◌||◌, List, get_or, if◌then◌else◌}
 use Rattle.wire_numbers.specs.Flags.{bit_set}
 use Rattle.store_record.specs.State.{app_present}
 use Rattle.store_record.specs.Record.{baud_of, position_of, row_set, updating}

@@ -26,7 +26,7 @@ agree zero id prefix = true
 agree (suc k) id prefix = eqb (bit_at k id) (bit_at k prefix) && agree k id prefix
 
 -- a match: no more bits than the id has, and all of them agree (01, Commands, Select). proofs/PrefixBits.antt says it of every bit, without computing:
--- matches-every and every-matches
+-- matches_every and every_matches
 unfoldable pub matches : ℕ → List ℕ → List ℕ → Bool
 matches count id prefix = leb count (8 * length id) && agree count id prefix
 

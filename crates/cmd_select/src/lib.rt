@@ -1,5 +1,7 @@
 // Translated from tinyboot, lib/core/src/addressing.rs (MIT OR Apache-2.0); changed.
 
+#![tactic(auto)]
+
 ghost use Rattle.std.specs.Prelude.{◌≡◌, ◌&&◌, ◌+◌, ◌-◌, ◌%◌, ◌^◌, ◌≤◌, ◌<◌, eqb, length, take};
 ghost use Rattle.cmd_select.specs.Select.{seed_of, bit_count_of, prefix_of, matches, slot_of, copied, select_of, choice_of};
 
@@ -10,7 +12,7 @@ use wire_numbers::crc;
 pub const MAX_UID_LEN: usize = 16;
 
 // What a Select says.
-#[derive(Drop)]
+#[derive(Clone, Copy)]
 pub enum Selected {
     // The device is selected and replies with its id, after a wait of so many byte-times.
     Yes { wait: u8 },

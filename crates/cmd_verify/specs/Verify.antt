@@ -1,6 +1,5 @@
 -- Verify (01, Commands).
-use Rattle.std.specs.Prelude.{ℕ, ◌+◌, ◌%◌, ◌^◌, Bool, not, ◌&&◌, ◌||◌, List, [], ◌∷◌, take, ◌==◌, nat_lt, slice_index_or}
-use Rattle.laws.specs.Pick.{if◌then◌else◌}
+use Rattle.std.specs.Prelude.{ℕ, ◌+◌, ◌%◌, ◌^◌, Bool, not, ◌&&◌, ◌||◌, List, [], ◌∷◌, take, ◌==◌, nat_lt, slice_index_or, if◌then◌else◌}
 use Rattle.laws.specs.Low.{low_first}
 use Rattle.wire_numbers.specs.Crc.{crc_of}
 use Rattle.store_record.specs.Record.{refreshed, updating}

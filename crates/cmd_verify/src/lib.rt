@@ -1,5 +1,7 @@
 // Translated from tinyboot, lib/core/src/protocol.rs (MIT OR Apache-2.0); changed.
 
+#![tactic(auto)]
+
 ghost use Rattle.std.specs.Prelude.{◌≡◌, ◌+◌, ◌^◌, ◌<◌};
 ghost use Rattle.wire_numbers.specs.Names.{status_number};
 ghost use Rattle.cmd_verify.specs.Verify.{key_at, key_in, key_fits, verified_to, verify_of};
@@ -12,7 +14,7 @@ use wire_frames::frame::FrameBytes;
 use wire_numbers::{COMPAT_UNSET, Status, crc, le};
 
 // How a Verify went, and the CRC that it replies: 0 where it is refused.
-#[derive(Drop)]
+#[derive(Clone, Copy)]
 pub struct Verdict {
     pub status: Status,
     pub crc: u16,

@@ -1,6 +1,5 @@
 -- Write (01, Commands). `page` is the page size, `p` the page under way.
-use Rattle.std.specs.Prelude.{ℕ, ◌+◌, ◌-◌, ◌%◌, Bool, true, false, not, ◌&&◌, ◌||◌, List, [], ◌∷◌, take, set, leb, eqb}
-use Rattle.laws.specs.Pick.{if◌then◌else◌}
+use Rattle.std.specs.Prelude.{ℕ, ◌+◌, ◌-◌, ◌%◌, Bool, true, false, not, ◌&&◌, ◌||◌, List, [], ◌∷◌, take, set, leb, eqb, if◌then◌else◌}
 use Rattle.wire_frames.specs.Fields.{len_of, addr_of, flags_of, data_of, Ok, WriteError, AddrOutOfBounds, Unsupported}
 use Rattle.wire_numbers.specs.Flags.{bit_set}
 use Rattle.store_flash.specs.Flash.{Cells, none_pending, page_written}

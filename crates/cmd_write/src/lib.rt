@@ -1,5 +1,7 @@
 // Translated from tinyboot, lib/core/src/protocol.rs (MIT OR Apache-2.0); changed.
 
+#![tactic(auto)]
+
 ghost use Rattle.std.specs.Prelude.{◌≡◌, ◌||◌, ◌+◌, ◌^◌, ◌≤◌, ◌<◌, length, take, drop};
 ghost use Rattle.std.proofs.Math.Seq.{paste};
 ghost use Rattle.laws.specs.Pick.{pick};
@@ -18,7 +20,7 @@ use wire_numbers::{Status, WriteFlags, le};
 const PAGE: u32 = PAGE_SIZE as u32;
 
 // How far a run is: how many bytes of the page are filled, the address of the next byte, and whether the storage refused a page.
-#[derive(Drop)]
+#[derive(Clone, Copy)]
 struct Run {
     fill: u32,
     next: u32,
@@ -26,7 +28,7 @@ struct Run {
 }
 
 // What a Write leaves beside the flash and the page.
-#[derive(Drop)]
+#[derive(Clone, Copy)]
 pub struct Ran {
     pub status: Status,
     pub fill: usize,

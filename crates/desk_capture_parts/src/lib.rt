@@ -1,12 +1,14 @@
 // A reader that looks at the caller's capture and copies nothing: a struct of slice and place, thin over `desk_captures`. Ours: tinyboot has no captures.
 
+#![tactic(auto)]
+
 ghost use Rattle.std.specs.Prelude.{◌≡◌};
 ghost use Rattle.desk_capture_parts.specs.Parts.{taken_of, taken_to};
 
 use desk_captures::Found;
 
 // A capture and the place up to which it has been read.
-#[derive(Drop)]
+#[derive(Clone, Copy)]
 pub struct Capture<'a> {
     pub src: &'a [u8],
     pub at: usize,
@@ -14,7 +16,7 @@ pub struct Capture<'a> {
 
 // What stands at the place; the record's bytes as that very part of the capture, none where no record stands; and the place of what follows, which is the same
 // place where none does.
-#[derive(Drop)]
+#[derive(Clone, Copy)]
 pub struct Taken<'a> {
     pub part: &'a [u8],
     pub found: Found,

@@ -1,6 +1,5 @@
 -- The bench's captures (02, E12): records, each after a mark of two bytes, which say which way it went and how many bytes it has.
-use Rattle.std.specs.Prelude.{ℕ, zero, suc, ◌+◌, Bool, true, false, ◌&&◌, ◌||◌, List, [], ◌∷◌, length, take, drop, eqb, ltb}
-use Rattle.laws.specs.Pick.{if◌then◌else◌}
+use Rattle.std.specs.Prelude.{ℕ, zero, suc, ◌+◌, Bool, true, false, ◌&&◌, ◌||◌, List, [], ◌∷◌, length, take, drop, eqb, ltb, if◌then◌else◌}
 use Rattle.desk_captures.specs.declared.Found.{Found}
 use Rattle.desk_captures.specs.declared.Compared.{Compared}
 

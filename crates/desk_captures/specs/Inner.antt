@@ -1,6 +1,5 @@
 -- What private contracts speak of; an auditor need not read it.
-use Rattle.std.specs.Prelude.{ℕ, Bool, ◌&&◌, not, List, eqb, ltb}
-use Rattle.laws.specs.Pick.{if◌then◌else◌}
+use Rattle.std.specs.Prelude.{ℕ, Bool, ◌&&◌, not, List, eqb, ltb, if◌then◌else◌}
 use Rattle.desk_captures.specs.declared.Compared.{Compared}
 use Rattle.desk_captures.specs.Captures.{next_at, mark_of, part_at, alike}
 

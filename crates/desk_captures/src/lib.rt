@@ -1,6 +1,8 @@
 // The bench's captures, read where they lie: what stands at a place of the caller's bytes, each record as that very part of them, and two captures compared.
 // Nothing is copied. Ours: tinyboot has no captures.
 
+#![tactic(auto)]
+
 ghost use Rattle.std.specs.Prelude.{◌≡◌};
 ghost use Rattle.desk_captures.specs.Captures.{
   is_mark,
@@ -33,7 +35,7 @@ const COUNT_ZERO: u8 = 25;
 const CUT_SHORT: u8 = 26;
 
 // What stands at a place of a capture. A record's bytes begin at `start`, after its two mark bytes. A fault is that of the record whose mark stands there.
-#[derive(Drop)]
+#[derive(Clone, Copy)]
 pub enum Found {
     End,
     Record { mark: u8, start: usize, len: usize },
@@ -42,7 +44,7 @@ pub enum Found {
 
 // Two captures compared: the second has no record that differs; its first that does, by the place of its mark; or a fault that was met by then, of the first
 // capture (1) or the second (2), by its number and the place of its mark.
-#[derive(Drop)]
+#[derive(Clone, Copy)]
 pub enum Compared {
     Alike,
     Differs { at: usize },

@@ -1,6 +1,5 @@
 -- What the desk hears (02, E1): the Rust's `read`, fed in parts, which checks the CRC of a reply too. `cap` is the payload capacity.
-use Rattle.std.specs.Prelude.{ℕ, false, ◌&&◌, List, take, drop, eqb, leb}
-use Rattle.laws.specs.Pick.{if◌then◌else◌}
+use Rattle.std.specs.Prelude.{ℕ, false, ◌&&◌, List, take, drop, eqb, leb, if◌then◌else◌}
 use Rattle.laws.specs.Low.{low_first}
 use Rattle.wire_info.specs.Info.{info_bytes, info_read}
 use Rattle.wire_info.specs.declared.InfoData.{InfoData}

@@ -1,6 +1,8 @@
 // What the desk hears: the Rust's `read` (tinyboot, lib/protocol/src/frame.rs, MIT OR Apache-2.0), fed in parts, and what the frame that it read says. Ours:
 // the desk side has no upstream file.
 
+#![tactic(auto)]
+
 ghost use Rattle.std.specs.Prelude.{◌≡◌, length, take, drop, eqb, leb, ◌&&◌};
 ghost use Rattle.wire_frames.specs.declared.frame.Kind.{Kind};
 ghost use Rattle.wire_frames.specs.Fields.{len_of, data_of};
@@ -22,7 +24,7 @@ use wire_info::InfoData;
 use wire_numbers::le;
 
 // The numbers of a frame's header.
-#[derive(Drop)]
+#[derive(Clone, Copy)]
 pub struct Head {
     pub cmd: u8,
     pub status: u8,
@@ -33,7 +35,7 @@ pub struct Head {
 
 // The contents of a reply: Info's numbers, the CRC of a Verify, the id of who was selected, or bytes. The last two stand in the frame: `data_of` hands them
 // back.
-#[derive(Drop)]
+#[derive(Clone, Copy)]
 pub enum Contents {
     Info { info: InfoData },
     Verify { crc: u16 },
@@ -43,7 +45,7 @@ pub enum Contents {
 
 // What a call heard: no frame has ended; a good request; a good reply; a frame that ended otherwise, with this status; or the frame handed in was no true
 // beginning, and nothing has changed.
-#[derive(Drop)]
+#[derive(Clone, Copy)]
 pub enum Heard {
     Nothing,
     Request { head: Head },
@@ -53,7 +55,7 @@ pub enum Heard {
 }
 
 // What a call on a lent frame gives: how many bytes have begun, how many were taken, what was heard.
-#[derive(Drop)]
+#[derive(Clone, Copy)]
 pub struct Part {
     pub got: usize,
     pub taken: usize,
@@ -61,7 +63,7 @@ pub struct Part {
 }
 
 // The same with the frame by value.
-#[derive(Drop)]
+#[derive(Clone, Copy)]
 pub struct Taken {
     pub frame: Frame,
     pub taken: usize,
@@ -100,7 +102,7 @@ fn info_bytes(f: &[u8]) -> [u8; 18]
     ensures { result ≡ take 18 (drop 10 f.now) }
 {
     let mut b = [0u8; 18];
-    bytes::copy(&f[10..28], &mut b);
+    b.copy_from_slice(&f[10..28]);
     b
 }
 

@@ -1,6 +1,5 @@
 -- A request as the desk writes it (02, E1; 01, Frame bytes). `cap` is the payload capacity.
-use Rattle.std.specs.Prelude.{ℕ, ◌+◌, ◌^◌, Bool, ◌||◌, List, ◌∷◌, ◌++◌, length, ltb, leb}
-use Rattle.laws.specs.Pick.{if◌then◌else◌}
+use Rattle.std.specs.Prelude.{ℕ, ◌+◌, ◌^◌, Bool, ◌||◌, List, ◌∷◌, ◌++◌, length, ltb, leb, if◌then◌else◌}
 use Rattle.laws.specs.Low.{low_bytes}
 use Rattle.laws.specs.Over.{over}
 use Rattle.wire_numbers.specs.Names.{cmd_number}

@@ -1,5 +1,7 @@
 // The desk's requests, written as tinyboot's `send` writes a frame (lib/protocol/src/frame.rs, MIT OR Apache-2.0); ours: the desk side has no upstream file.
 
+#![tactic(auto)]
+
 ghost use Rattle.std.specs.Prelude.{◌≡◌, ◌||◌, ◌+◌, ◌≤◌, ◌<◌, ◌^◌, ◌++◌, ◌∷◌, [], length, replicate, ltb, leb};
 ghost use Rattle.std.proofs.Math.Seq.{paste};
 ghost use Rattle.laws.specs.Pick.{pick};
@@ -13,7 +15,7 @@ use wire_frames::sync::Sync;
 use wire_numbers::{Cmd, ResetFlags, WriteFlags, le};
 
 // A request but for its data: the command, and the header's numbers that are the desk's to choose.
-#[derive(Drop)]
+#[derive(Clone, Copy)]
 pub struct Request {
     pub cmd: Cmd,
     pub flags: u8,
@@ -22,7 +24,7 @@ pub struct Request {
 
 // A request was written, and has so many bytes; or the room is below a full frame; or the data are above the capacity or the address above 24 bits. Nothing is
 // written then.
-#[derive(Drop)]
+#[derive(Clone, Copy)]
 pub enum Written {
     Done { len: usize },
     NoRoom,

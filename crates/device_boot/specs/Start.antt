@@ -1,6 +1,5 @@
 -- The decision of a start (01, Record, flash, start). `careful` is the kind of start (02, E4): true for the careful one, false for the present one.
-use Rattle.std.specs.Prelude.{ℕ, Bool, true, false, not, ◌&&◌, List, take, leb, eqb}
-use Rattle.laws.specs.Pick.{if◌then◌else◌}
+use Rattle.std.specs.Prelude.{ℕ, Bool, true, false, not, ◌&&◌, List, take, leb, eqb, if◌then◌else◌}
 use Rattle.wire_numbers.specs.Crc.{crc_of}
 use Rattle.wire_numbers.specs.Names.{mode_number}
 use Rattle.wire_numbers.specs.declared.RunMode.{RunMode}

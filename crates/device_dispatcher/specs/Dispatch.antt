@@ -1,7 +1,6 @@
 -- What becomes of a frame that has ended (01, Frame bytes, replies; Commands, Select), by the way in which it ended. `cap` is the payload capacity, `page` the
 -- page size.
-use Rattle.std.specs.Prelude.{ℕ, Bool, true, false, List, length, take}
-use Rattle.laws.specs.Pick.{if◌then◌else◌}
+use Rattle.std.specs.Prelude.{ℕ, Bool, true, false, List, length, take, if◌then◌else◌}
 use Rattle.wire_frames.specs.declared.frame.Kind.{Kind}
 use Rattle.wire_frames.specs.declared.frame.Kind.TheVariants.{Unsupported, PayloadOverflow, Overheard, CrcMismatch, Good}
 use Rattle.wire_frames.specs.Reading.{kind_status}

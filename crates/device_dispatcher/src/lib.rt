@@ -1,6 +1,8 @@
 // Translated from tinyboot, lib/core/src/protocol.rs (MIT OR Apache-2.0); changed: what the blocking dispatcher does to its platform is done to lent
 // arrays; the reply is written into a lent room, the wait and the restart are answers.
 
+#![tactic(auto)]
+
 ghost use Rattle.std.specs.Prelude.{◌≡◌, length, take};
 ghost use Rattle.wire_numbers.specs.Names.{status_number};
 ghost use Rattle.wire_frames.specs.Reading.{kind_status};
@@ -19,7 +21,7 @@ use wire_frames::frame::{FrameBytes, Kind};
 use wire_numbers::Status;
 
 // What the end of a frame leaves beside what it is lent.
-#[derive(Drop)]
+#[derive(Clone, Copy)]
 pub struct Dispatched {
     pub answer: Answer,
     pub numbers: Numbers,

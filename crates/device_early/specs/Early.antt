@@ -1,6 +1,5 @@
 -- Will it stay, from the mode asked for and the record alone (02, E11): an early answer, before a start reads the flash. `page` is the page size.
-use Rattle.std.specs.Prelude.{ℕ, Bool, true, not, ◌&&◌, ◌||◌, List, length, eqb, ltb}
-use Rattle.laws.specs.Pick.{if◌then◌else◌}
+use Rattle.std.specs.Prelude.{ℕ, Bool, true, not, ◌&&◌, ◌||◌, List, length, eqb, ltb, if◌then◌else◌}
 use Rattle.store_record.specs.Record.{updating, validating, trials_of, checksum_of, size_of}
 use Rattle.device_state.specs.declared.Setup.{Setup}
 use Rattle.device_state.specs.Refusals.{set_up}

@@ -1,6 +1,8 @@
 // Will a start stay, from the record alone. Ours: the Rust has no such call. It is for who shows early what a module will do, where the flash takes
 // long to read.
 
+#![tactic(auto)]
+
 ghost use Rattle.std.specs.Prelude.{◌≡◌, ◌&&◌, eqb};
 ghost use Rattle.wire_numbers.specs.Names.{mode_number};
 ghost use Rattle.store_record.specs.Record.{validating, trials_of};
@@ -13,7 +15,7 @@ use store_record::traits::BootState;
 use wire_numbers::RunMode;
 
 // The early answer. `ReadsOn` promises nothing: the start reads the flash, and may stay after all.
-#[derive(Drop)]
+#[derive(Clone, Copy)]
 pub enum Outlook {
     ReadsOn,
     Stays,

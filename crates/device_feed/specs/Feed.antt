@@ -1,7 +1,6 @@
 -- A call of the feed (01, What a call says). With p the bytes of the frame begun in the state, all of it follows from the reading of p and the piece. `cap`
 -- is the payload capacity, `page` the page size.
-use Rattle.std.specs.Prelude.{ℕ, true, List, ◌++◌, length, eqb}
-use Rattle.laws.specs.Pick.{if◌then◌else◌}
+use Rattle.std.specs.Prelude.{ℕ, true, List, ◌++◌, length, eqb, if◌then◌else◌}
 use Rattle.wire_frames.specs.Reading.{read_frame}
 use Rattle.wire_frames.specs.Stored.{begun, ready, Said, quiet, ended, no_beginning, Read, out_of}
 use Rattle.device_state.specs.declared.Setup.{Setup}

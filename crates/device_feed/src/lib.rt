@@ -1,5 +1,7 @@
 // Ours: the Rust's dispatcher reads from the wire until a frame has ended; this one is handed the bytes as they come, and answers what is to be done.
 
+#![tactic(auto)]
+
 ghost use Rattle.std.specs.Prelude.{◌≡◌, true, false};
 ghost use Rattle.wire_frames.specs.Reading.{kind_status};
 ghost use Rattle.wire_frames.specs.Stored.{well_of, said_of};
@@ -16,7 +18,7 @@ use store_flash::storage::Page;
 use wire_frames::frame::{FrameBytes, Kind, Stop};
 
 // The state afterwards, how many bytes of the piece were taken, and what the call says.
-#[derive(Drop)]
+#[derive(Clone, Copy)]
 pub struct Fed {
     pub state: State,
     pub taken: usize,
@@ -24,7 +26,7 @@ pub struct Fed {
 }
 
 // The same where the state's arrays are lent: what they do not hold.
-#[derive(Drop)]
+#[derive(Clone, Copy)]
 pub struct Passed {
     pub numbers: Numbers,
     pub taken: usize,

@@ -1,6 +1,5 @@
 -- A request carried out (01, Commands). `cap` is the payload capacity, `page` the page size.
-use Rattle.std.specs.Prelude.{ℕ, ◌/◌, ◌%◌, Bool, false, List, set, eqb}
-use Rattle.laws.specs.Pick.{if◌then◌else◌}
+use Rattle.std.specs.Prelude.{ℕ, ◌/◌, ◌%◌, Bool, false, List, set, eqb, if◌then◌else◌}
 use Rattle.wire_frames.specs.Fields.{cmd_of, Ok, Unsupported}
 use Rattle.wire_info.specs.Info.{info_bytes}
 use Rattle.cmd_info.specs.Info.{info_of, info_laid}

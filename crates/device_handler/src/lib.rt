@@ -1,6 +1,8 @@
 // Translated from tinyboot, lib/core/src/protocol.rs (MIT OR Apache-2.0); changed: a command answers its reply's status and length, and who calls it lays them
 // in the header.
 
+#![tactic(auto)]
+
 ghost use Rattle.std.specs.Prelude.{◌≡◌, List, ℕ, eqb};
 ghost use Rattle.wire_numbers.specs.Names.{status_number, cmd_number};
 ghost use Rattle.cmd_verify.specs.Verify.{verify_of};
@@ -15,7 +17,7 @@ use wire_info::InfoData;
 use wire_numbers::{Cmd, CmdFound, Status, le};
 
 // What a command leaves beside what it is lent: the reply's status and length, whether a restart is due after it, and the device's numbers.
-#[derive(Drop)]
+#[derive(Clone, Copy)]
 pub struct Handled {
     pub status: Status,
     pub len: u16,

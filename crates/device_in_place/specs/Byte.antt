@@ -1,5 +1,5 @@
 -- A call on one byte that is only stored: no frame ends by it, and nothing of it is looked at. No rule of 01, but a shorter way to what its rules give:
--- where the byte is laid the call is the feed's (proofs/Quick.antt, `byte-fed`), and else nothing is done.
+-- where the byte is laid the call is the feed's (proofs/Quick.antt, `byte_fed`), and else nothing is done.
 use Rattle.std.specs.Prelude.{ℕ, ◌+◌, Bool, true, false, ◌&&◌, ◌||◌, List, length, set, ltb, leb, eqb}
 use Rattle.laws.specs.Pick.{pick}
 use Rattle.wire_frames.specs.Fields.{len_of}

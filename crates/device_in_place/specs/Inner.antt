@@ -1,6 +1,5 @@
 -- The code's answer as what the definitions speak of, and what the functions promise each other; an auditor need not read it.
-use Rattle.std.specs.Prelude.{ℕ, ◌+◌, not, List, length, ltb}
-use Rattle.laws.specs.Pick.{if◌then◌else◌}
+use Rattle.std.specs.Prelude.{ℕ, ◌+◌, not, List, length, ltb, if◌then◌else◌}
 use Rattle.device_state.specs.declared.Setup.{Setup}
 use Rattle.device_state.specs.declared.Numbers.{Numbers}
 use Rattle.device_state.specs.Refusals.{set_up, refusal_of}

@@ -1,7 +1,6 @@
 -- A call of the feed on a state whose two arrays stand in one slice: the frame's bytes first, then the page's, then anything. It is the feed's call between a
 -- split of the slice and a join; what stands after the two arrays stays as it was.
-use Rattle.std.specs.Prelude.{ℕ, ◌+◌, List, ◌++◌, length, take, drop, ltb, not}
-use Rattle.laws.specs.Pick.{if◌then◌else◌}
+use Rattle.std.specs.Prelude.{ℕ, ◌+◌, List, ◌++◌, length, take, drop, ltb, not, if◌then◌else◌}
 use Rattle.device_state.specs.declared.Setup.{Setup}
 use Rattle.device_state.specs.declared.Numbers.{Numbers}
 use Rattle.device_state.specs.State.{World, world}

@@ -1,6 +1,8 @@
 // `feed` on a state whose two arrays stand in one lent slice: the frame's bytes first, then the page's. A frame is read in place, and only one that has ended
 // is taken out for the dispatcher: so a call on a few bytes copies nothing but these.
 
+#![tactic(auto)]
+
 ghost use Rattle.std.specs.Prelude.{◌≡◌, true, false, ◌++◌, ◌+◌, ◌≤◌, length, take, drop};
 ghost use Rattle.std.proofs.Math.Seq.{paste};
 ghost use Rattle.wire_frames.specs.Stored.{well_of, seen, read_of};

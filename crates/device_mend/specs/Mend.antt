@@ -1,7 +1,6 @@
 -- A record mended, and what was done to it (02, E14). `page` is the page size.
-use Rattle.std.specs.Prelude.{ℕ, suc, ◌-◌, ◌^◌, Bool, not, ◌&&◌, List, [], ◌∷◌, length, replicate, eqb, ltb}
+use Rattle.std.specs.Prelude.{ℕ, suc, ◌-◌, ◌^◌, Bool, not, ◌&&◌, List, [], ◌∷◌, length, replicate, eqb, ltb, if◌then◌else◌}
 use Rattle.std.proofs.lemmas.List.Edits.{sets}
-use Rattle.laws.specs.Pick.{if◌then◌else◌}
 use Rattle.store_record.specs.State.{state_read}
 use Rattle.store_record.specs.Record.{state_of, trials_of, checksum_of, starts_left}
 use Rattle.device_state.specs.declared.Setup.{Setup}

@@ -1,5 +1,7 @@
 // A record mended, and a list of what was done. Ours: the Rust reads an odd record as it stands.
 
+#![tactic(auto)]
+
 ghost use Rattle.std.specs.Prelude.{◌≡◌, [], ◌∷◌, ℕ, ◌-◌, ◌*◌, ◌^◌, ◌<◌, length, replicate};
 ghost use Rattle.std.proofs.lemmas.List.Edits.{sets};
 ghost use Rattle.device_mend.specs.Mend.{low_ones, missized, mended, changes, changed, leaves, mended_to, refusal_in, count_in, mend_number, mend_of};
@@ -21,7 +23,7 @@ pub const ENTRIES: usize = 12;
 const LIST: usize = ENTRY * ENTRIES;
 
 // What a mend says: how many bytes it has changed, each with its entry; or the refusal, and nothing has changed.
-#[derive(Drop)]
+#[derive(Clone, Copy)]
 pub enum Mended {
     Done { count: u8 },
     BadSetup,

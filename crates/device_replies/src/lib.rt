@@ -1,6 +1,8 @@
 // The answers of a call, and the reply that two of them tell of. Translated from tinyboot, lib/core/src/protocol.rs (MIT OR Apache-2.0); changed: a reply
 // is written into a lent room, the wait and the restart are answers.
 
+#![tactic(auto)]
+
 ghost use Rattle.std.specs.Prelude.{◌≡◌};
 ghost use Rattle.wire_numbers.specs.Names.{status_number, mode_number};
 ghost use Rattle.wire_frames.specs.Fields.{flags_of};
@@ -14,7 +16,7 @@ use wire_numbers::{ResetFlags, RunMode, Status, le};
 
 // What a call says: no frame has ended; one has, and there is no reply, for this reason; there is one, to be sent after a wait of so many byte-times; there
 // is one, and a restart in this mode is due after it; or the call is refused, and nothing has changed.
-#[derive(Drop)]
+#[derive(Clone, Copy)]
 pub enum Answer {
     Quiet,
     Silent { why: Silence },
@@ -29,7 +31,7 @@ pub enum Answer {
 }
 
 // An answer in numbers.
-#[derive(Drop)]
+#[derive(Clone, Copy)]
 pub struct Said {
     pub number: u8,
     pub mode: u8,

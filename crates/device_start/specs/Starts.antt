@@ -1,6 +1,5 @@
 -- A start (01, Record, flash, start; What a call says).
-use Rattle.core.specs.Prelude.{ℕ, Bool, true, false, not, List, length, replicate, ◌==◌, nat_eq}
-use Rattle.laws.specs.Pick.{if◌then◌else◌}
+use Rattle.std.specs.Prelude.{ℕ, Bool, true, false, not, List, length, replicate, ◌==◌, nat_eq, if◌then◌else◌}
 use Rattle.wire_numbers.specs.Names.{mode_number}
 use Rattle.store_flash.specs.Flash.{none_pending}
 use Rattle.wire_frames.specs.Stored.{new_frame}

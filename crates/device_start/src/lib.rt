@@ -1,12 +1,14 @@
 // Translated from tinyboot, lib/core/src/core.rs (MIT OR Apache-2.0); changed: what the Rust runs into is a new state, and the app is an answer.
 
-ghost use Rattle.core.specs.Prelude.{◌≡◌, true, ◌==◌};
+#![tactic(auto)]
+
+ghost use Rattle.std.specs.Prelude.{◌≡◌, true, ◌==◌};
 ghost use Rattle.wire_numbers.specs.Names.{mode_number};
 ghost use Rattle.device_boot.specs.Start.{start_of};
 ghost use Rattle.device_state.specs.Refusals.{refusal_number};
 ghost use Rattle.device_start.specs.Starts.{new_state, start_refusal, started_to, decided_to, started_of};
 
-use device_boot::core;
+use device_boot::boot_core;
 use device_state::refusal::Refusal;
 use device_state::{CAREFUL, Numbers, Setup, State, refusal};
 use store_flash::storage::{NONE_PENDING, PAGE_SIZE};
@@ -14,7 +16,7 @@ use wire_frames::frame::Frame;
 use wire_numbers::RunMode;
 
 // What a start gives: where it refuses, Service and a closed state.
-#[derive(Drop)]
+#[derive(Clone, Copy)]
 pub struct Started {
     pub state: State,
     pub refusal: Refusal,
@@ -79,7 +81,7 @@ fn begun(careful: bool, capacity: usize, mode: RunMode, flash: &[u8], meta: &mut
     ensures { started_to result meta.new ≡
         decided_to 52 64 (start_of careful capacity (mode_number mode) flash.now meta.old) }
 {
-    let decision = core::check_boot_state(careful, capacity, mode, flash, meta);
+    let decision = boot_core::check_boot_state(careful, capacity, mode, flash, meta);
     Started {
         state: new_state(hands_off(decision)),
         refusal: Refusal::None,

@@ -1,6 +1,5 @@
 -- When a call refuses (01, What a call says). `cap` is the payload capacity, `page` the page size.
-use Rattle.std.specs.Prelude.{ℕ, ◌+◌, ◌%◌, Bool, true, not, ◌&&◌, List, leb, ltb, eqb}
-use Rattle.laws.specs.Pick.{if◌then◌else◌}
+use Rattle.std.specs.Prelude.{ℕ, ◌+◌, ◌%◌, Bool, true, not, ◌&&◌, List, leb, ltb, eqb, if◌then◌else◌}
 use Rattle.store_flash.specs.Flash.{none_pending}
 use Rattle.wire_frames.specs.Stored.{well_of}
 use Rattle.device_state.specs.declared.Setup.{Setup}

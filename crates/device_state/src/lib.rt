@@ -1,12 +1,15 @@
 // Translated from tinyboot, lib/core/src/protocol.rs (MIT OR Apache-2.0); changed: the dispatcher's fields are a state that goes by value, and what its types
 // fix at build time is a setup.
+
+#![tactic(auto)]
+
 pub mod refusal;
 
 use store_flash::storage::Page;
 use wire_frames::frame::FrameBytes;
 
 // The numbers that a device is built with. An id of length 0 is an unaddressed device; id bytes past the length count for nothing.
-#[derive(Drop)]
+#[derive(Clone, Copy)]
 pub struct Setup {
     pub erase_size: usize,
     pub capacity: usize,
@@ -24,7 +27,7 @@ pub const CAREFUL: u8 = 1;
 
 // What a device keeps between calls beside its two arrays: how many bytes of a frame have begun; of the run of writes, how much of its page is filled and the
 // next address (NONE_PENDING with none pending); the selection; whether a restart is due.
-#[derive(Drop)]
+#[derive(Clone, Copy)]
 pub struct Numbers {
     pub got: usize,
     pub fill: usize,
@@ -34,7 +37,7 @@ pub struct Numbers {
 }
 
 // All that a device keeps between calls: the bytes of a frame, the page of a run of writes, and the numbers.
-#[derive(Drop)]
+#[derive(Clone, Copy)]
 pub struct State {
     pub frame: FrameBytes,
     pub page: Page,

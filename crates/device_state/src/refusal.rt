@@ -9,7 +9,7 @@ use wire_frames::frame;
 use wire_frames::frame::{FRAME, FrameBytes};
 
 // The refusals of 01, in its table's order.
-#[derive(Drop)]
+#[derive(Clone, Copy)]
 pub enum Refusal {
     None,
     BadSetup,

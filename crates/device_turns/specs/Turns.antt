@@ -1,7 +1,6 @@
 -- Who answers a frame that has ended, and why a device keeps silent (01, Frame bytes, replies; Commands, Select; 02, E2): from the id, the way in which the
 -- frame ended, its bytes and the selection, and from nothing else.
-use Rattle.std.specs.Prelude.{ℕ, Bool, true, false, List, take, eqb}
-use Rattle.laws.specs.Pick.{if◌then◌else◌}
+use Rattle.std.specs.Prelude.{ℕ, Bool, true, false, List, take, eqb, if◌then◌else◌}
 use Rattle.wire_frames.specs.declared.frame.Kind.{Kind}
 use Rattle.wire_frames.specs.declared.frame.Kind.TheVariants.{Unsupported, PayloadOverflow, Overheard, CrcMismatch, Good}
 use Rattle.wire_frames.specs.Fields.{cmd_of}

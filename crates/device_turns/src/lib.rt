@@ -1,6 +1,8 @@
 // Who answers a frame, and why not. Translated from tinyboot, lib/core/src/protocol.rs (MIT OR Apache-2.0); changed: the turn is a value, and silence has a
 // reason.
 
+#![tactic(auto)]
+
 ghost use Rattle.std.specs.Prelude.{◌≡◌, eqb, take, ℕ, false, List};
 ghost use Rattle.wire_frames.specs.Fields.{cmd_of};
 ghost use Rattle.cmd_select.specs.Select.{select_of};
@@ -11,7 +13,7 @@ use cmd_select::Selected;
 use wire_frames::frame::{FrameBytes, Kind};
 
 // Why a device keeps silent once a frame has ended.
-#[derive(Drop)]
+#[derive(Clone, Copy)]
 pub enum Silence {
     OverheardReply,
     UnreadableFrame,
@@ -22,7 +24,7 @@ pub enum Silence {
 
 // What a frame that has ended calls for: silence, or a reply after a wait, to a Select that matched or to what else is asked; and whether the device is
 // selected afterwards.
-#[derive(Drop)]
+#[derive(Clone, Copy)]
 pub enum Turn {
     Silent {
         why: Silence,

@@ -1,1 +1,3 @@
 // Definitions and laws that several crates cite; no code.
+
+#![tactic(auto)]

@@ -1,10 +1,14 @@
 // Feeds an unaddressed device what stands on standard input, and prints what each frame was answered: where it ends, and the reply's status or `silent` and
 // why; at the end, how many bytes of a frame have begun. A restart ends it.
+
+#![tactic(auto)]
+
 use device_feed::feed;
 use device_replies::Answer;
 use device_state::{PRESENT, Setup, State};
 use device_turns::Silence;
-use libc::{STDIN_FILENO, STDOUT_FILENO};
+use std::io;
+use std::io::{BufWriter, Read, Write};
 use store_flash::storage::PAGE_SIZE;
 use wire_frames::frame::FRAME;
 use wire_numbers::COMPAT_UNSET;
@@ -30,82 +34,81 @@ fn unaddressed() -> Setup {
     }
 }
 
-fn put(text: &[u8]) {
-    io::write_all(STDOUT_FILENO, text);
-}
-
-fn number(n: u64) {
-    io::print_decimal(STDOUT_FILENO, n);
-}
-
 // A frame that was replied to.
-fn replied(at: u64, status: u8) {
-    number(at);
-    put(b" ");
-    number(status as u64);
-    put(b"\n");
+fn replied(out: &mut impl Write, at: u64, status: u8) -> io::Result<()> {
+    writeln!(out, "{at} {status}")
 }
 
-fn reason(why: Silence) {
+fn reason(why: Silence) -> &'static str {
     match why {
-        Silence::OverheardReply => put(b"overheard reply"),
-        Silence::UnreadableFrame => put(b"unreadable frame"),
-        Silence::WrongCrc => put(b"wrong CRC"),
-        Silence::NotSelected => put(b"not selected"),
-        Silence::SelectWithoutMatch => put(b"Select without a match"),
+        Silence::OverheardReply => "overheard reply",
+        Silence::UnreadableFrame => "unreadable frame",
+        Silence::WrongCrc => "wrong CRC",
+        Silence::NotSelected => "not selected",
+        Silence::SelectWithoutMatch => "Select without a match",
     }
 }
 
 // A frame that was not.
-fn ignored(at: u64, why: Silence) {
-    number(at);
-    put(b" silent ");
-    reason(why);
-    put(b"\n");
+fn ignored(out: &mut impl Write, at: u64, why: Silence) -> io::Result<()> {
+    let reason = reason(why);
+    writeln!(out, "{at} silent {reason}")
 }
 
 // A frame that has ended gets a line; whether the device listens on.
-fn tell(at: u64, answer: Answer, status: u8) -> bool {
+fn tell(out: &mut impl Write, at: u64, answer: Answer, status: u8) -> io::Result<bool> {
     match answer {
-        Answer::Quiet => true,
+        Answer::Quiet => Ok(true),
         Answer::Silent { why } => {
-            ignored(at, why);
-            true
+            ignored(out, at, why)?;
+            Ok(true)
         }
         Answer::Reply { len: _, wait: _ } => {
-            replied(at, status);
-            true
+            replied(out, at, status)?;
+            Ok(true)
         }
         Answer::Restart { len: _, mode: _ } => {
-            replied(at, status);
-            false
+            replied(out, at, status)?;
+            Ok(false)
         }
-        _ => false,
+        _ => Ok(false),
     }
 }
 
 // One call, as far as the end of a frame.
-fn hear(heard: Heard, bytes: &[u8], flash: &mut [u8; 16384], meta: &mut [u8; 12]) -> Heard {
+fn hear(
+    out: &mut impl Write,
+    heard: Heard,
+    bytes: &[u8],
+    flash: &mut [u8; 16384],
+    meta: &mut [u8; 12],
+) -> io::Result<Heard> {
     let mut reply = [0u8; FRAME];
     let state = heard.state;
     let f = feed(unaddressed(), state, bytes, flash, meta, &mut reply);
-    let total = std::num::wrapping_add_u64(heard.bytes, f.taken as u64);
+    let total = heard.bytes.wrapping_add(f.taken as u64);
     let answer = f.answer;
     let next = f.state;
-    Heard {
+    Ok(Heard {
         state: next,
         bytes: total,
         taken: f.taken,
-        on: tell(total, answer, reply[3]),
-    }
+        on: tell(out, total, answer, reply[3])?,
+    })
 }
 
 // All that one read brought, frame by frame.
-fn block(heard: Heard, bytes: &[u8], flash: &mut [u8; 16384], meta: &mut [u8; 12]) -> Heard {
+fn block(
+    out: &mut impl Write,
+    heard: Heard,
+    bytes: &[u8],
+    flash: &mut [u8; 16384],
+    meta: &mut [u8; 12],
+) -> io::Result<Heard> {
     let mut h = heard;
     let mut at: usize = 0;
     while at < bytes.len() {
-        h = hear(h, &bytes[at..], flash, meta);
+        h = hear(out, h, &bytes[at..], flash, meta)?;
         let n = h.taken;
         if !h.on {
             break;
@@ -118,49 +121,58 @@ fn block(heard: Heard, bytes: &[u8], flash: &mut [u8; 16384], meta: &mut [u8; 12
         }
         at += n;
     }
-    h
+    Ok(h)
 }
 
-// One read. Whether it brought anything is told by the bytes in all.
-fn some(heard: Heard, flash: &mut [u8; 16384], meta: &mut [u8; 12]) -> Heard {
-    let mut space = io::buffer();
-    let got = libc::read(STDIN_FILENO, &mut space);
-    let n = io::count(got, &space);
-    block(heard, &space[..n], flash, meta)
+// One read, before which goes out what has been printed. Whether it brought anything is told by the bytes in all.
+fn some(
+    input: &mut impl Read,
+    out: &mut impl Write,
+    heard: Heard,
+    flash: &mut [u8; 16384],
+    meta: &mut [u8; 12],
+) -> io::Result<Heard> {
+    let mut space = [0u8; 4096];
+    out.flush()?;
+    let n = input.read(&mut space)?;
+    block(out, heard, &space[..n], flash, meta)
 }
 
-// The stream to its end, or to a restart. A proved loop has to end, and nothing says that a stream does, so the turns are counted from a number that no run
-// uses up.
-fn all(flash: &mut [u8; 16384], meta: &mut [u8; 12]) -> Heard {
+// The stream to its end, or to a restart. A proved loop has to end, and nothing says that a stream does, so the turns are counted up to a number that no run
+// comes to.
+fn all(
+    input: &mut impl Read,
+    out: &mut impl Write,
+    flash: &mut [u8; 16384],
+    meta: &mut [u8; 12],
+) -> io::Result<Heard> {
     let mut heard = Heard {
         state: device_start::new_state(false),
         bytes: 0,
         taken: 0,
         on: true,
     };
-    let mut turns = u64::MAX;
-    while turns > 0 {
+    for _ in 0..u64::MAX {
         let before = heard.bytes;
-        heard = some(heard, flash, meta);
+        heard = some(input, out, heard, flash, meta)?;
         if heard.bytes == before {
             break;
         }
         if !heard.on {
             break;
         }
-        turns -= 1;
     }
-    heard
+    Ok(heard)
 }
 
-fn main() {
-    put(b"end answer\n");
+fn main(rt: HostRuntime) -> io::Result<()> {
+    let mut out = BufWriter::new(rt.alloc(), io::writer(&rt))?;
+    writeln!(out, "end answer")?;
     let mut flash = [0xFFu8; 16384];
     let mut meta = [0xFFu8; 12];
-    let heard = all(&mut flash, &mut meta);
+    let heard = all(&mut rt.stdin(), &mut out, &mut flash, &mut meta)?;
     let state = heard.state;
     let numbers = state.numbers;
-    put(b"open ");
-    number(numbers.got as u64);
-    put(b"\n");
+    writeln!(out, "open {}", numbers.got)?;
+    out.flush()
 }

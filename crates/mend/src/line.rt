@@ -9,7 +9,7 @@ const RECORD: usize = 12;
 // The value of what is no digit.
 const NONE: u8 = 16;
 
-#[derive(Drop)]
+#[derive(Clone, Copy)]
 pub struct Line {
     // Which line of the input it is.
     pub number: u64,

@@ -1,4 +1,7 @@
 // Mends records for service staff: docs/MEND.md says what it reads and prints.
+
+#![tactic(auto)]
+
 mod line;
 mod module;
 mod show;
@@ -6,7 +9,8 @@ mod tell;
 
 use crate::line::Line;
 use device_state::Setup;
-use libc::STDIN_FILENO;
+use std::io;
+use std::io::{BufWriter, Read, Write};
 
 // Between two characters: the setup in force, and the line under way.
 #[derive(Drop)]
@@ -16,56 +20,65 @@ struct Reading {
 }
 
 // A line as it was read: nothing, a complaint, a setup or a record. The setup for the lines below.
-fn obey(setup: Setup, line: Line, bytes: &[u8]) -> Setup {
+fn obey(out: &mut impl Write, setup: Setup, line: Line, bytes: &[u8]) -> io::Result<Setup> {
     if line.is_empty() {
-        return setup;
+        return Ok(setup);
     }
     if line.is_bad() {
-        tell::bad(line);
-        return module::after_bad(setup, line.is_setup);
+        tell::bad(out, line)?;
+        return Ok(module::after_bad(setup, line.is_setup));
     }
     if line.is_setup {
-        return module::setup_of(bytes, line.len);
+        return Ok(module::setup_of(bytes, line.len));
     }
-    tell::mended(setup, line.number, bytes);
-    setup
+    tell::mended(out, setup, line.number, bytes)?;
+    Ok(setup)
 }
 
 // What one read brought, line by line.
-fn block(setup: Setup, line: Line, part: &[u8], bytes: &mut [u8]) -> Reading {
+fn block(
+    out: &mut impl Write,
+    setup: Setup,
+    line: Line,
+    part: &[u8],
+    bytes: &mut [u8],
+) -> io::Result<Reading> {
     let mut setup = setup;
     let mut line = line;
-    let mut i: usize = 0;
-    while i < part.len() {
-        let c = part[i];
-        i += 1;
-        if c == b'\n' {
-            setup = obey(setup, line, bytes);
-            line = Line::new(std::num::wrapping_add_u64(line.number, 1));
+    for c in part {
+        if *c == b'\n' {
+            setup = obey(out, setup, line, bytes)?;
+            line = Line::new(line.number.wrapping_add(1));
         } else {
-            line = line.read(c, bytes);
+            line = line.read(*c, bytes);
         }
     }
-    Reading { setup, line }
+    Ok(Reading { setup, line })
 }
 
-// The input to its end. A proved loop has to end, and nothing says that an input does, so the reads are counted from a number that no run uses up.
-fn main() {
-    let mut bytes = [0u8; line::MOST];
+// The input to its end. A proved loop has to end, and nothing says that an input does, so the reads are counted up to a number that no run comes to. What has
+// been printed goes out before each.
+fn all(input: &mut impl Read, out: &mut impl Write, bytes: &mut [u8]) -> io::Result<Reading> {
     let mut setup = module::listening();
     let mut line = Line::new(1);
-    let mut reads = u64::MAX;
-    while reads > 0 {
-        let mut space = io::buffer();
-        let got = libc::read(STDIN_FILENO, &mut space);
-        let n = io::count(got, &space);
+    for _ in 0..u64::MAX {
+        let mut space = [0u8; 4096];
+        out.flush()?;
+        let n = input.read(&mut space)?;
         if n == 0 {
             break;
         }
-        let r = block(setup, line, &space[..n], &mut bytes);
+        let r = block(out, setup, line, &space[..n], bytes)?;
         setup = r.setup;
         line = r.line;
-        reads -= 1;
     }
-    obey(setup, line, &bytes);
+    Ok(Reading { setup, line })
+}
+
+fn main(rt: HostRuntime) -> io::Result<()> {
+    let mut out = BufWriter::new(rt.alloc(), io::writer(&rt))?;
+    let mut bytes = [0u8; line::MOST];
+    let r = all(&mut rt.stdin(), &mut out, &mut bytes)?;
+    obey(&mut out, r.setup, r.line, &bytes)?;
+    out.flush()
 }

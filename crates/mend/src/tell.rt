@@ -4,162 +4,148 @@ use crate::show;
 use device_early::{Outlook, early};
 use device_mend::{Mended, mend, mend_number};
 use device_state::{CAREFUL, PRESENT, Setup};
+use std::io;
+use std::io::Write;
 use store_flash::cells::{byte_at, lay};
 use store_record::boot_meta_store::starts_left;
 use store_record::rewrite::RECORD;
 use store_record::traits::BootState;
 use wire_numbers::RunMode;
 
-fn which(number: u64) {
-    show::text(b"line ");
-    show::number(number);
-    show::text(b": ");
+fn which(out: &mut impl Write, number: u64) -> io::Result<()> {
+    write!(out, "line {number}: ")
 }
 
 // How many bytes a line of this kind has.
-fn wanted(is_setup: bool) {
+fn wanted(is_setup: bool) -> &'static str {
     if is_setup {
-        show::text(b" bytes, and a setup has 31 or 32\n");
+        "a setup has 31 or 32"
     } else {
-        show::text(b" bytes, and a record has 12\n");
+        "a record has 12"
     }
 }
 
 // Why a line is none.
-pub(crate) fn bad(line: Line) {
-    which(line.number);
+pub(crate) fn bad(out: &mut impl Write, line: Line) -> io::Result<()> {
+    which(out, line.number)?;
     if line.strange {
-        show::text(b"bad: a character that is no hexadecimal digit\n");
-        return;
+        return writeln!(out, "bad: a character that is no hexadecimal digit");
     }
     if line.is_half() {
-        show::text(b"bad: half a byte\n");
-        return;
+        return writeln!(out, "bad: half a byte");
     }
-    show::text(b"bad: ");
+    write!(out, "bad: ")?;
     if line.long {
-        show::text(b"more than ");
+        write!(out, "more than ")?;
     }
-    show::number(line.len as u64);
-    wanted(line.is_setup);
+    writeln!(out, "{} bytes, and {}", line.len, wanted(line.is_setup))
 }
 
-fn name(place: u8) {
+fn name(place: u8) -> &'static str {
     match place {
-        0 => show::text(b"state"),
-        1 => show::text(b"trials"),
-        2 | 3 => show::text(b"checksum"),
-        _ => show::text(b"size"),
+        0 => "state",
+        1 => "trials",
+        2 | 3 => "checksum",
+        _ => "size",
     }
 }
 
-fn starts(left: u32) {
+fn starts(left: u32) -> &'static str {
     match left {
-        1 => show::text(b"one start"),
-        2 => show::text(b"two starts"),
-        3 => show::text(b"three starts"),
-        4 => show::text(b"four starts"),
-        5 => show::text(b"five starts"),
-        6 => show::text(b"six starts"),
-        _ => show::text(b"seven starts"),
+        1 => "one start",
+        2 => "two starts",
+        3 => "three starts",
+        4 => "four starts",
+        5 => "five starts",
+        6 => "six starts",
+        _ => "seven starts",
     }
 }
 
-fn state(old: u8) {
+fn state(old: u8) -> &'static str {
     match BootState::from_u8(old) {
-        BootState::Updating => show::text(b"Updating, as it was read before"),
-        _ => show::text(b"Updating, since no image has the size stored"),
+        BootState::Updating => "Updating, as it was read before",
+        _ => "Updating, since no image has the size stored",
     }
 }
 
-fn why(place: u8, old: u8) {
+fn why(out: &mut impl Write, place: u8, old: u8) -> io::Result<()> {
     match place {
-        0 => state(old),
-        1 => {
-            starts(starts_left(old));
-            show::text(b" left as before");
-        }
-        _ => show::text(b"none stored"),
+        0 => write!(out, "{}", state(old)),
+        1 => write!(out, "{} left as before", starts(starts_left(old))),
+        _ => write!(out, "none stored"),
     }
 }
 
 // A byte that has changed.
-fn entry(place: u8, old: u8, new: u8) {
-    show::text(b"byte ");
-    show::number(place as u64);
-    show::text(b", ");
-    name(place);
-    show::text(b": ");
-    show::pair(old);
-    show::text(b" to ");
-    show::pair(new);
-    show::text(b", ");
-    why(place, old);
-    show::text(b"\n");
+fn entry(out: &mut impl Write, place: u8, old: u8, new: u8) -> io::Result<()> {
+    let name = name(place);
+    write!(out, "byte {place}, {name}: {old:02X} to {new:02X}, ")?;
+    why(out, place, old)?;
+    writeln!(out)
 }
 
-fn entries(count: u8, list: &[u8]) {
-    let n = count as usize;
-    let mut i: usize = 0;
-    while i < n {
+fn entries(out: &mut impl Write, count: u8, list: &[u8]) -> io::Result<()> {
+    for i in 0..count as usize {
         entry(
+            out,
             byte_at(list, 3 * i),
             byte_at(list, 3 * i + 1),
             byte_at(list, 3 * i + 2),
-        );
-        i += 1;
+        )?;
     }
+    Ok(())
 }
 
-fn head(count: u8) {
+fn head(out: &mut impl Write, count: u8) -> io::Result<()> {
     match count {
-        0 => show::text(b"nothing to mend\n"),
-        1 => show::text(b"1 byte mended\n"),
-        _ => {
-            show::number(count as u64);
-            show::text(b" bytes mended\n");
-        }
+        0 => writeln!(out, "nothing to mend"),
+        1 => writeln!(out, "1 byte mended"),
+        _ => writeln!(out, "{count} bytes mended"),
     }
 }
 
 // What a start of this kind would say now, asked to hand off.
-fn outlook(setup: Setup, kind: u8, meta: &[u8]) {
+fn outlook(setup: Setup, kind: u8, meta: &[u8]) -> &'static str {
     let mut setup = setup;
     setup.start_kind = kind;
     match early(setup, RunMode::HandOff, meta) {
-        Outlook::Stays => show::text(b"stays\n"),
-        Outlook::ReadsOn => show::text(b"reads on\n"),
-        _ => show::text(b"is refused\n"),
+        Outlook::Stays => "stays",
+        Outlook::ReadsOn => "reads on",
+        _ => "is refused",
     }
 }
 
-fn done(setup: Setup, count: u8, meta: &[u8], list: &[u8]) {
-    head(count);
-    entries(count, list);
-    show::text(b"record ");
-    show::hex(meta);
-    show::text(b"\npresent start: ");
-    outlook(setup, PRESENT, meta);
-    show::text(b"careful start: ");
-    outlook(setup, CAREFUL, meta);
+fn done(out: &mut impl Write, setup: Setup, count: u8, meta: &[u8], list: &[u8]) -> io::Result<()> {
+    head(out, count)?;
+    entries(out, count, list)?;
+    write!(out, "record ")?;
+    show::hex(out, meta)?;
+    writeln!(out)?;
+    writeln!(out, "present start: {}", outlook(setup, PRESENT, meta))?;
+    writeln!(out, "careful start: {}", outlook(setup, CAREFUL, meta))
 }
 
 // A refusal: of the setup, since record and list have the right lengths here.
-fn refused(said: Mended) {
-    show::text(b"not mended: no good setup (");
-    show::number(mend_number(said) as u64);
-    show::text(b")\n");
+fn refused(out: &mut impl Write, said: Mended) -> io::Result<()> {
+    let number = mend_number(said);
+    writeln!(out, "not mended: no good setup ({number})")
 }
 
 // A record, mended, and what was done.
-pub(crate) fn mended(setup: Setup, number: u64, bytes: &[u8]) {
+pub(crate) fn mended(
+    out: &mut impl Write,
+    setup: Setup,
+    number: u64,
+    bytes: &[u8],
+) -> io::Result<()> {
     let mut meta = [0xFFu8; RECORD];
     let mut list = [0u8; 36];
     lay(&mut meta, bytes);
-    which(number);
+    which(out, number)?;
     let said = mend(setup, &mut meta, &mut list);
     match said {
-        Mended::Done { count } => done(setup, count, &meta, &list),
-        _ => refused(said),
+        Mended::Done { count } => done(out, setup, count, &meta, &list),
+        _ => refused(out, said),
     }
 }

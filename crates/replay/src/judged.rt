@@ -4,7 +4,8 @@ ghost use Rattle.desk_captures.specs.Captures.{next_at, mark_of};
 
 use crate::show;
 use desk_captures::{Found, TO_MODULE, after, mark_of, next_at, part_at, same_bytes};
-use std::num::wrapping_add_u64;
+use std::io;
+use std::io::Write;
 
 #[derive(Drop)]
 pub struct Judged {
@@ -44,42 +45,45 @@ fn sought(capture: &[u8], at: usize) -> usize {
 }
 
 // The module's next reply, held against the next record. A record is never empty.
-pub(crate) fn hold(judged: Judged, capture: &[u8], reply: &[u8]) -> Judged {
+pub(crate) fn hold(
+    out: &mut impl Write,
+    judged: Judged,
+    capture: &[u8],
+    reply: &[u8],
+) -> io::Result<Judged> {
     let mut j = judged;
     let at = sought(capture, j.at);
     let record = part_at(capture, at);
     j.at = at;
-    if record.len() == 0 {
-        j.more = wrapping_add_u64(j.more, 1);
-        return j;
+    if record.is_empty() {
+        j.more = j.more.wrapping_add(1);
+        return Ok(j);
     }
-    let number = wrapping_add_u64(j.same, 1);
+    let number = j.same.wrapping_add(1);
     if same_bytes(record, reply) {
         j.at = after(capture, at);
         j.same = number;
-        return j;
+        return Ok(j);
     }
-    show::differs(number, at, record, reply);
+    show::differs(out, number, at, record, reply)?;
     j.differs = true;
-    j
+    Ok(j)
 }
 
 // Where there are no more replies: a record behind the last of them is none of the module's.
-pub(crate) fn rest(capture: &[u8], j: Judged) {
+pub(crate) fn rest(out: &mut impl Write, capture: &[u8], j: Judged) -> io::Result<()> {
     let at = sought(capture, j.at);
     let found = next_at(capture, at);
     match found {
-        Found::End => show::counts(j.same, j.more),
+        Found::End => show::counts(out, j.same, j.more),
         Found::Record {
             mark: _,
             start: _,
             len: _,
-        } => {
-            show::differs(wrapping_add_u64(j.same, 1), at, part_at(capture, at), b"");
-        }
+        } => show::differs(out, j.same.wrapping_add(1), at, part_at(capture, at), b""),
         Found::Fault { code } => {
-            show::counts(j.same, j.more);
-            show::fault(code, at);
+            show::counts(out, j.same, j.more)?;
+            show::fault(out, code, at)
         }
     }
 }

@@ -1,52 +1,51 @@
 // Replays a capture of the wire to a module: docs/REPLAY.md says what it reads and prints.
+
+#![tactic(auto)]
+
 mod judged;
 mod module;
 mod show;
 
-ghost use Rattle.std.specs.Prelude.{◌≡◌, length};
-
 use crate::module::Module;
-use libc::STDIN_FILENO;
+use std::io;
+use std::io::{BufWriter, Read, Write};
 
-// The longest capture, and room for a byte more.
+// The longest capture.
 const MOST: usize = 1048576;
 
-const ROOM: usize = 1048577;
-
 // What is said where the module has no reply left, and no record differs but perhaps one that it has no reply for.
-fn told(capture: &[u8], m: Module) {
+fn told(out: &mut impl Write, capture: &[u8], m: Module) -> io::Result<()> {
     let j = m.judged;
     if j.differs {
-        return;
+        return Ok(());
     }
     if m.restarted {
-        show::counts(j.same, j.more);
-        show::text(b"restart\n");
-        return;
+        show::counts(out, j.same, j.more)?;
+        return writeln!(out, "restart");
     }
-    judged::rest(capture, j);
+    judged::rest(out, capture, j)
 }
 
-fn replayed(capture: &[u8]) {
+fn replayed(out: &mut impl Write, capture: &[u8]) -> io::Result<()> {
     let mut flash = [0xFFu8; 16384];
     let mut meta = [0xFFu8; 12];
-    let m = module::all(capture, &mut flash, &mut meta);
-    told(capture, m);
+    let m = module::all(out, capture, &mut flash, &mut meta)?;
+    told(out, capture, m)
 }
 
-// Room for the longest capture and a byte more. Of its bytes the length alone is told, so that no proof looks at a million of them.
-fn room() -> [u8; ROOM]
-    ensures { 1048577 ≡ length result }
-{
-    [0; ROOM]
-}
-
-fn main() {
-    let mut space = room();
-    let n = io::read_full(STDIN_FILENO, &mut space);
-    if MOST < n {
-        show::text(b"too long\n");
-        return;
+// A capture as it was read, which may be longer than any.
+fn judge(out: &mut impl Write, capture: &[u8]) -> io::Result<()> {
+    if MOST < capture.len() {
+        return writeln!(out, "too long");
     }
-    replayed(&space[..n]);
+    replayed(out, capture)
+}
+
+// No more is read than the longest capture and a byte.
+fn main(rt: HostRuntime) -> io::Result<()> {
+    let mut out = BufWriter::new(rt.alloc(), io::writer(&rt))?;
+    let mut capture = Vec::new(rt.alloc());
+    rt.stdin().take(MOST as u64 + 1).read_to_end(&mut capture)?;
+    judge(&mut out, &capture)?;
+    out.flush()
 }

@@ -5,6 +5,8 @@ use desk_captures::{TO_MODULE, after, part_at};
 use device_feed::feed;
 use device_replies::numbers_of;
 use device_state::{PRESENT, Setup, State};
+use std::io;
+use std::io::Write;
 use store_flash::cells::first;
 use store_flash::storage::PAGE_SIZE;
 use wire_frames::frame::FRAME;
@@ -32,21 +34,28 @@ fn listening() -> Setup {
 }
 
 // The answers that have a reply: 2, and 3, a restart.
-fn held(judged: Judged, number: u8, capture: &[u8], reply: &[u8]) -> Judged {
+fn held(
+    out: &mut impl Write,
+    judged: Judged,
+    number: u8,
+    capture: &[u8],
+    reply: &[u8],
+) -> io::Result<Judged> {
     if number == 2 || number == 3 {
-        return judged::hold(judged, capture, reply);
+        return judged::hold(out, judged, capture, reply);
     }
-    judged
+    Ok(judged)
 }
 
 // One call, as far as the end of a frame.
 fn call(
+    out: &mut impl Write,
     m: Module,
     capture: &[u8],
     bytes: &[u8],
     flash: &mut [u8; 16384],
     meta: &mut [u8; 12],
-) -> Module {
+) -> io::Result<Module> {
     let mut reply = [0u8; FRAME];
     let state = m.state;
     let before = m.judged;
@@ -54,35 +63,35 @@ fn call(
     let answer = f.answer;
     let said = numbers_of(answer);
     let next = f.state;
-    let j = held(before, said.number, capture, first(&reply, said.len));
-    Module {
+    let j = held(out, before, said.number, capture, first(&reply, said.len))?;
+    Ok(Module {
         state: next,
         judged: j,
         taken: f.taken,
         restarted: said.number == 3,
-    }
+    })
 }
 
 // Whether the module is fed on.
-fn goes_on(m: Module) -> bool {
-    let j = m.judged;
-    !m.restarted && !j.differs
+fn goes_on(m: &Module) -> bool {
+    !m.restarted && !m.judged.differs
 }
 
 // The bytes of a record, frame by frame.
 fn record(
+    out: &mut impl Write,
     module: Module,
     capture: &[u8],
     bytes: &[u8],
     flash: &mut [u8; 16384],
     meta: &mut [u8; 12],
-) -> Module {
+) -> io::Result<Module> {
     let mut m = module;
     let mut at: usize = 0;
     while at < bytes.len() {
-        m = call(m, capture, &bytes[at..], flash, meta);
+        m = call(out, m, capture, &bytes[at..], flash, meta)?;
         let n = m.taken;
-        if !goes_on(m) {
+        if !goes_on(&m) {
             break;
         }
         if n == 0 {
@@ -93,7 +102,7 @@ fn record(
         }
         at += n;
     }
-    m
+    Ok(m)
 }
 
 fn new() -> Module {
@@ -108,7 +117,12 @@ fn new() -> Module {
 }
 
 // The capture to its end, its fault, a restart, or a record that differs.
-pub(crate) fn all(capture: &[u8], flash: &mut [u8; 16384], meta: &mut [u8; 12]) -> Module {
+pub(crate) fn all(
+    out: &mut impl Write,
+    capture: &[u8],
+    flash: &mut [u8; 16384],
+    meta: &mut [u8; 12],
+) -> io::Result<Module> {
     let mut m = new();
     let mut at: usize = 0;
     loop {
@@ -117,12 +131,12 @@ pub(crate) fn all(capture: &[u8], flash: &mut [u8; 16384], meta: &mut [u8; 12]) 
             break;
         }
         if mark == TO_MODULE {
-            m = record(m, capture, part_at(capture, at), flash, meta);
+            m = record(out, m, capture, part_at(capture, at), flash, meta)?;
         }
-        if !goes_on(m) {
+        if !goes_on(&m) {
             break;
         }
         at = after(capture, at);
     }
-    m
+    Ok(m)
 }

@@ -1,7 +1,6 @@
 -- The flash: a page write and an erase (01, Record, flash, start; Commands).
-use Rattle.std.specs.Prelude.{ℕ, zero, suc, ◌+◌, ◌-◌, ◌%◌, List, [], ◌∷◌, Bool, ◌||◌, not, length, ltb, eqb}
+use Rattle.std.specs.Prelude.{ℕ, zero, suc, ◌+◌, ◌-◌, ◌%◌, List, [], ◌∷◌, Bool, ◌||◌, not, length, ltb, eqb, if◌then◌else◌}
 use Rattle.std.specs.Int.Bits.{bit_and}
-use Rattle.laws.specs.Pick.{if◌then◌else◌}
 use Rattle.store_flash.specs.declared.storage.Stored.{Stored}
 
 -- a write can only clear bits: the bytes d are ANDed in from the cell `at` on, every other cell is kept (01, Record, flash, start)

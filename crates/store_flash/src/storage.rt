@@ -14,7 +14,7 @@ pub const NONE_PENDING: u32 = 0xFFFF_FFFF;
 // A page under way.
 pub type Page = [u8; PAGE_SIZE];
 
-#[derive(Drop)]
+#[derive(Clone, Copy)]
 pub enum Stored {
     Done,
     NotAligned,

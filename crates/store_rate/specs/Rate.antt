@@ -1,6 +1,5 @@
 -- The rate that a record stands for, by its index.
-use Rattle.std.specs.Prelude.{ℕ, not, List, length, eqb}
-use Rattle.laws.specs.Pick.{if◌then◌else◌}
+use Rattle.std.specs.Prelude.{ℕ, not, List, length, eqb, if◌then◌else◌}
 use Rattle.laws.specs.Lookup.{Lookup, none, some}
 use Rattle.store_record.specs.Record.{baud_of}
 use Rattle.wire_rates.specs.Baud.{baud_lookup}

@@ -1,6 +1,8 @@
 // The rate that a record's baud stands for. After tinyboot, ch32/src/platform/boot_meta_store.rs (MIT OR Apache-2.0), whose `stored_baud` gives the index and
 // leaves the rest to the chip.
 
+#![tactic(auto)]
+
 ghost use Rattle.std.specs.Prelude.{◌≡◌};
 ghost use Rattle.wire_rates.specs.Baud.{baud_index};
 ghost use Rattle.store_rate.specs.Rate.{rate_read};

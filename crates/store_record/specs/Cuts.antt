@@ -1,6 +1,5 @@
 -- A rewrite of the record, step by step (02, E4): an erase to twelve 0xFF, then three 4-byte words in order. A cut may come before or after each.
-use Rattle.std.specs.Prelude.{ℕ, zero, suc, ◌*◌, List, length, take, replicate, eqb}
-use Rattle.laws.specs.Pick.{if◌then◌else◌}
+use Rattle.std.specs.Prelude.{ℕ, zero, suc, ◌*◌, List, length, take, replicate, eqb, if◌then◌else◌}
 use Rattle.laws.specs.Over.{over}
 
 -- the record erased

@@ -7,7 +7,7 @@ use store_flash::cells::byte_at;
 use wire_numbers::le;
 
 // The stages of an update. Each byte is the one before with a 1 cleared: x & x >> 1.
-#[derive(Drop)]
+#[derive(Clone, Copy)]
 pub enum BootState {
     Idle,
     Updating,

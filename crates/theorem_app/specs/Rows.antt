@@ -4,7 +4,6 @@ use Rattle.std.specs.Prelude.{ℕ, ◌-◌, Bool, true, false, List, [], ◌∷�
 use Rattle.app_state.specs.declared.AppSetup.{AppSetup}
 use Rattle.app_state.specs.declared.AppNumbers.{AppNumbers}
 use Rattle.app_state.specs.State.{numbered, new_app}
-use Rattle.wire_sender.specs.Sent.{frame}
 use Rattle.theorem_demands.specs.Sheet.{Shown, all_shown, silence, replies, refused_with, header, damaged, info, erase, write, verify, reset, select}
 use Rattle.theorem_demands.specs.Sheet.{record_of, in_state, id_reply}
 use Rattle.theorem_app.specs.Stream.{Story, story_of}

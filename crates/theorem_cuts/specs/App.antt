@@ -1,6 +1,5 @@
 -- The rewrites of the running app (02, E3), and that each of their cuts is decided (02, E4). `cap` is the payload capacity.
-use Rattle.std.specs.Prelude.{ℕ, ◌<◌, ◌≡◌, List, length, get_or, eqb}
-use Rattle.laws.specs.Pick.{if◌then◌else◌}
+use Rattle.std.specs.Prelude.{ℕ, ◌<◌, ◌≡◌, List, length, get_or, eqb, if◌then◌else◌}
 use Rattle.wire_numbers.specs.Flags.{bit_set}
 use Rattle.wire_frames.specs.declared.frame.Kind.{Kind}
 use Rattle.wire_frames.specs.Fields.{flags_of}

@@ -1,7 +1,6 @@
 -- What becomes of the record in a request that is carried out, and flash and record at each of its cuts (02, E4). `cap` is the payload capacity, `page` the
 -- page size.
-use Rattle.std.specs.Prelude.{ℕ, ◌≡◌, true, not, ◌&&◌, ◌||◌, List, length, eqb}
-use Rattle.laws.specs.Pick.{if◌then◌else◌}
+use Rattle.std.specs.Prelude.{ℕ, ◌≡◌, true, not, ◌&&◌, ◌||◌, List, length, eqb, if◌then◌else◌}
 use Rattle.wire_numbers.specs.Flags.{bit_set}
 use Rattle.store_record.specs.Record.{updating, validating, fresh_of, row_of, advanced}
 use Rattle.store_record.specs.Cuts.{cut_after}

@@ -1,6 +1,5 @@
 -- Devices as functions, for demand 3; and four wrong ones, made from a device d, which it rules out.
-use Rattle.std.specs.Prelude.{ℕ, [], ◌∷◌, length, get_or, eqb}
-use Rattle.laws.specs.Pick.{if◌then◌else◌}
+use Rattle.std.specs.Prelude.{ℕ, [], ◌∷◌, length, get_or, eqb, if◌then◌else◌}
 use Rattle.device_state.specs.declared.Setup.{Setup}
 use Rattle.device_state.specs.State.{World}
 use Rattle.device_replies.specs.Answers.{mute, reply}

@@ -1,7 +1,6 @@
 -- The limits of the refusals (01, What a call says, 10 to 15, and well formed; setup numbers): on each side of each of them, what a feed and a start answer, 0
 -- for no refusal. Read it beside 01's table.
-use Rattle.std.specs.Prelude.{ℕ, Bool, true, false, ◌||◌, List, [], ◌∷◌, ◌++◌, replicate, eqb}
-use Rattle.laws.specs.Pick.{if◌then◌else◌}
+use Rattle.std.specs.Prelude.{ℕ, Bool, true, false, ◌||◌, List, [], ◌∷◌, ◌++◌, replicate, eqb, if◌then◌else◌}
 use Rattle.wire_frames.specs.Stored.{new_frame}
 use Rattle.device_state.specs.declared.Setup.{Setup}
 use Rattle.device_state.specs.declared.Numbers.{Numbers}

@@ -1,6 +1,5 @@
 -- What the running app means by a reply, of its own numbers, and that the desk hears it (02, E3 and E1). `cap` is the payload capacity, `page` the page size.
-use Rattle.std.specs.Prelude.{ℕ, ◌+◌, ◌^◌, ◌≤◌, ◌<◌, ◌≡◌, Bool, true, ◌&&◌, List, [], length, eqb}
-use Rattle.laws.specs.Pick.{if◌then◌else◌}
+use Rattle.std.specs.Prelude.{ℕ, ◌+◌, ◌^◌, ◌≤◌, ◌<◌, ◌≡◌, Bool, true, ◌&&◌, List, [], length, eqb, if◌then◌else◌}
 use Rattle.wire_info.specs.declared.InfoData.{InfoData}
 use Rattle.wire_frames.specs.declared.frame.Kind.{Kind}
 use Rattle.wire_frames.specs.Fields.{cmd_of, Ok}

@@ -1,7 +1,6 @@
 -- What a device means by a reply, of its own numbers (01, Commands; Frame bytes, a reply): what the desk is to read. `cap` is the payload capacity, `page` the
 -- page size.
-use Rattle.std.specs.Prelude.{ℕ, Bool, true, ◌&&◌, List, [], take, eqb}
-use Rattle.laws.specs.Pick.{if◌then◌else◌}
+use Rattle.std.specs.Prelude.{ℕ, Bool, true, ◌&&◌, List, [], take, eqb, if◌then◌else◌}
 use Rattle.wire_numbers.specs.Crc.{crc_of}
 use Rattle.wire_info.specs.declared.InfoData.{InfoData}
 use Rattle.wire_frames.specs.declared.frame.Kind.{Kind}

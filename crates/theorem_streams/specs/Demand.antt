@@ -1,6 +1,5 @@
 -- Demand 3, of any device: however a stream is cut into calls, it comes to what the uncut stream comes to.
-use Rattle.std.specs.Prelude.{ℕ, zero, suc, ◌+◌, ◌≤◌, ◌<◌, ◌≡◌, ◌||◌, ◌⊎◌, List, [], ◌++◌, length, take, drop, eqb}
-use Rattle.laws.specs.Pick.{if◌then◌else◌}
+use Rattle.std.specs.Prelude.{ℕ, zero, suc, ◌+◌, ◌≤◌, ◌<◌, ◌≡◌, ◌||◌, ◌⊎◌, List, [], ◌++◌, length, take, drop, eqb, if◌then◌else◌}
 use Rattle.theorem_streams.specs.Rules.{Rules, Called, Device, refused_by}
 use Rattle.theorem_streams.specs.Stream.{Story, event_of, ends, first, story_of}
 

@@ -1,6 +1,5 @@
 -- A kind of device by its rules, and a call of it (01, What a call says). W is its world: all that it carries from call to call.
-use Rattle.std.specs.Prelude.{ℕ, ◌-◌, Bool, true, List, ◌++◌, length, eqb}
-use Rattle.laws.specs.Pick.{if◌then◌else◌}
+use Rattle.std.specs.Prelude.{ℕ, ◌-◌, Bool, true, List, ◌++◌, length, eqb, if◌then◌else◌}
 use Rattle.wire_frames.specs.declared.frame.Kind.{Kind}
 use Rattle.wire_frames.specs.Reading.{Outcome, Begun, Ended, read_frame}
 use Rattle.wire_frames.specs.Stored.{begun, store, ready}

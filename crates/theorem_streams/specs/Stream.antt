@@ -1,6 +1,5 @@
 -- A stream as one uncut list: frame after frame by the rules of a kind of device, as far as the first accepted Reset.
-use Rattle.std.specs.Prelude.{ℕ, zero, suc, ◌+◌, true, List, [], ◌∷◌, length, take, replicate}
-use Rattle.laws.specs.Pick.{if◌then◌else◌}
+use Rattle.std.specs.Prelude.{ℕ, zero, suc, ◌+◌, true, List, [], ◌∷◌, length, take, replicate, if◌then◌else◌}
 use Rattle.wire_frames.specs.Reading.{Outcome, Begun, Ended, read_frame}
 use Rattle.device_replies.specs.Answers.{Told}
 use Rattle.theorem_streams.specs.Rules.{Ending, Rules, whole_of, arrived}

@@ -1,7 +1,6 @@
 -- What the calls of the C interface leave (include/tinyboot.h, Calls). The order of the refusals is that of their numbers: beside those of the feed or of the
 -- start, a buffer that is no setup's (10), one that is no state's (11), and too little room for an answer, which counts as no room (14).
-use Rattle.std.specs.Prelude.{ℕ, not, ◌&&◌, List, length, eqb, ltb}
-use Rattle.laws.specs.Pick.{if◌then◌else◌}
+use Rattle.std.specs.Prelude.{ℕ, not, ◌&&◌, List, length, eqb, ltb, if◌then◌else◌}
 use Rattle.laws.specs.Over.{over}
 use Rattle.device_state.specs.declared.Setup.{Setup}
 use Rattle.device_state.specs.declared.State.{State}

@@ -1,6 +1,5 @@
 // A feed of buffers that hold a setup and a state. The state's arrays stay where they stand.
-ghost use Rattle.std.specs.Prelude.{◌≡◌, length, ltb, true};
-ghost use Rattle.laws.specs.Pick.{if◌then◌else◌};
+ghost use Rattle.std.specs.Prelude.{◌≡◌, length, ltb, true, if◌then◌else◌};
 ghost use Rattle.device_feed.specs.Feed.{fed_of};
 ghost use Rattle.c_layout.specs.Layout.{answer_size, setup_from, holds_state};
 ghost use Rattle.tinyboot_c.specs.Calls.{world_from, after_feed};

@@ -1,4 +1,7 @@
 // The device for programs in C or Rust: each call takes and leaves plain bytes. Ours: the Rust has no such interface.
+
+#![tactic(auto)]
+
 mod feeding;
 mod layout;
 mod state;
@@ -23,40 +26,35 @@ use wire_numbers::compat_key;
 use wire_numbers::crc::crc16;
 
 // How many bytes a state takes.
-#[unsafe(no_mangle)]
-pub extern "C" fn tinyboot_state_size() -> usize
+pub fn tinyboot_state_size() -> usize
     ensures { result ≡ state_size 52 64 }
 {
     STATE_SIZE
 }
 
 // The register `crc` after these bytes, for hosts that make frames.
-#[unsafe(no_mangle)]
-pub extern "C" fn tinyboot_crc16(crc: u16, bytes: &[u8]) -> u16
+pub fn tinyboot_crc16(crc: u16, bytes: &[u8]) -> u16
     ensures { result ≡ crc_from crc bytes.now }
 {
     crc16(crc, bytes)
 }
 
 // The key of a name, for who sets up a module or makes an image for it.
-#[unsafe(no_mangle)]
-pub extern "C" fn tinyboot_key(name: &[u8]) -> u32
+pub fn tinyboot_key(name: &[u8]) -> u32
     ensures { result ≡ key_of name.now }
 {
     compat_key(name)
 }
 
 // An open new state, where the buffer is as long as a state.
-#[unsafe(no_mangle)]
-pub extern "C" fn tinyboot_new_state(state: &mut [u8]) -> u8
+pub fn tinyboot_new_state(state: &mut [u8]) -> u8
     ensures { after_new result state.new ≡ c_new 52 64 state.old }
 {
     new_in(state)
 }
 
 // Takes the bytes up to the end of the first frame in them, and carries that frame out.
-#[unsafe(no_mangle)]
-pub extern "C" fn tinyboot_feed(
+pub fn tinyboot_feed(
     setup: &[u8],
     state: &mut [u8],
     bytes: &[u8],
@@ -80,8 +78,7 @@ pub extern "C" fn tinyboot_feed(
 }
 
 // A restart, or the first start: mode 0 asks for the app, every other for Service.
-#[unsafe(no_mangle)]
-pub extern "C" fn tinyboot_start(
+pub fn tinyboot_start(
     mode: u8,
     setup: &[u8],
     state: &mut [u8],
@@ -100,8 +97,7 @@ pub extern "C" fn tinyboot_start(
 }
 
 // Whether a start that asks for this mode will stay, from the record alone: nothing is written.
-#[unsafe(no_mangle)]
-pub extern "C" fn tinyboot_early(mode: u8, setup: &[u8], meta: &[u8]) -> u8
+pub fn tinyboot_early(mode: u8, setup: &[u8], meta: &[u8]) -> u8
     ensures { result ≡ c_early 64 mode setup.now meta.now }
 {
     if !holds_setup(setup) {
@@ -111,8 +107,7 @@ pub extern "C" fn tinyboot_early(mode: u8, setup: &[u8], meta: &[u8]) -> u8
 }
 
 // Takes the bytes up to the end of the first frame in them, and answers that frame as the running app.
-#[unsafe(no_mangle)]
-pub extern "C" fn tinyboot_app_feed(
+pub fn tinyboot_app_feed(
     setup: &[u8],
     state: &mut [u8],
     bytes: &[u8],
@@ -131,48 +126,42 @@ pub extern "C" fn tinyboot_app_feed(
 }
 
 // A new state of the app, where the buffer is as long as one.
-#[unsafe(no_mangle)]
-pub extern "C" fn tinyboot_app_new_state(state: &mut [u8]) -> u8
+pub fn tinyboot_app_new_state(state: &mut [u8]) -> u8
     ensures { after_new result state.new ≡ c_app_new 52 state.old }
 {
     app_new_in(state)
 }
 
 // The app on trial stays.
-#[unsafe(no_mangle)]
-pub extern "C" fn tinyboot_confirm(meta: &mut [u8]) -> u8
+pub fn tinyboot_confirm(meta: &mut [u8]) -> u8
     ensures { leaves result meta.new ≡ confirm_of meta.old }
 {
     confirm_in(meta)
 }
 
 // The stored rate in bits per second, or the one with this index where none is stored.
-#[unsafe(no_mangle)]
-pub extern "C" fn tinyboot_baud(meta: &[u8], default_index: u8) -> u32
+pub fn tinyboot_baud(meta: &[u8], default_index: u8) -> u32
     ensures { result ≡ c_baud meta.now default_index }
 {
     baud_in(meta, default_index)
 }
 
 // Stores the rate with this index.
-#[unsafe(no_mangle)]
-pub extern "C" fn tinyboot_set_baud(meta: &mut [u8], index: u8) -> u8
+pub fn tinyboot_set_baud(meta: &mut [u8], index: u8) -> u8
     ensures { leaves result meta.new ≡ c_set_baud meta.old index }
 {
     set_baud_in(meta, index)
 }
 
 // The place in the row.
-#[unsafe(no_mangle)]
-pub extern "C" fn tinyboot_position(meta: &[u8]) -> u16
+pub fn tinyboot_position(meta: &[u8]) -> u16
     ensures { result ≡ c_position meta.now }
 {
     position_in(meta)
 }
 
 // A record put in order: how many bytes of it have changed, each listed by place, old and new byte; or the refusal.
-#[unsafe(no_mangle)]
-pub extern "C" fn tinyboot_mend(setup: &[u8], meta: &mut [u8], list: &mut [u8]) -> u8
+pub fn tinyboot_mend(setup: &[u8], meta: &mut [u8], list: &mut [u8]) -> u8
     ensures { after_mend result meta.new list.new ≡ c_mended 64 setup.now meta.old list.old }
 {
     if !holds_setup(setup) {

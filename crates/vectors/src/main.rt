@@ -1,5 +1,9 @@
 // Runs published vectors over the protocol crate and says which differ.
-use libc::STDOUT_FILENO;
+
+#![tactic(auto)]
+
+use std::io;
+use std::io::{BufWriter, Write};
 use wire_numbers::crc::crc16;
 use wire_numbers::{compat_key, pack_version, unpack_version};
 use wire_rates::{BaudFound, BaudRate};
@@ -20,25 +24,9 @@ const RATES: [u32; 14] = [
     2500000, 3000000,
 ];
 
-fn put(text: &[u8]) {
-    io::write_all(STDOUT_FILENO, text);
-}
-
-fn number(n: u64) {
-    io::print_decimal(STDOUT_FILENO, n);
-}
-
-fn begin(same: bool) {
-    if same {
-        put(b"ok ");
-    } else {
-        put(b"DIFFERS ");
-    }
-}
-
 impl Tally {
     fn counted(self, same: bool) -> Tally {
-        let ran = std::num::wrapping_add_u64(self.ran, 1);
+        let ran = self.ran.wrapping_add(1);
         if same {
             Tally {
                 ran,
@@ -47,61 +35,82 @@ impl Tally {
         } else {
             Tally {
                 ran,
-                differ: std::num::wrapping_add_u64(self.differ, 1),
+                differ: self.differ.wrapping_add(1),
             }
         }
     }
 
     // A vector whose source has it in hexadecimal, at so many digits.
-    fn hex(self, name: &[u8], got: u64, expected: u64, width: usize) -> Tally {
+    fn hex(
+        self,
+        out: &mut impl Write,
+        name: &str,
+        got: u64,
+        expected: u64,
+        width: usize,
+    ) -> io::Result<Tally> {
         let same = got == expected;
-        begin(same);
-        put(name);
-        if !same {
-            put(b": got 0x");
-            io::print_hex(STDOUT_FILENO, got, width);
-            put(b", expected 0x");
-            io::print_hex(STDOUT_FILENO, expected, width);
+        if same {
+            writeln!(out, "ok {name}")?;
+        } else {
+            writeln!(
+                out,
+                "DIFFERS {name}: got 0x{got:0width$x}, expected 0x{expected:0width$x}"
+            )?;
         }
-        put(b"\n");
-        self.counted(same)
+        Ok(self.counted(same))
     }
 
     // A vector of decimal numbers; its name ends in a number.
-    fn decimal(self, name: &[u8], n: u64, got: u64, expected: u64) -> Tally {
+    fn decimal(
+        self,
+        out: &mut impl Write,
+        name: &str,
+        n: u64,
+        got: u64,
+        expected: u64,
+    ) -> io::Result<Tally> {
         let same = got == expected;
-        begin(same);
-        put(name);
-        number(n);
-        if !same {
-            put(b": got ");
-            number(got);
-            put(b", expected ");
-            number(expected);
+        if same {
+            writeln!(out, "ok {name}{n}")?;
+        } else {
+            writeln!(out, "DIFFERS {name}{n}: got {got}, expected {expected}")?;
         }
-        put(b"\n");
-        self.counted(same)
+        Ok(self.counted(same))
     }
 
-    fn crc(self, name: &[u8], bytes: &[u8], expected: u64) -> Tally {
-        self.hex(name, crc16(0xFFFF, bytes) as u64, expected, 4)
+    fn crc(
+        self,
+        out: &mut impl Write,
+        name: &str,
+        bytes: &[u8],
+        expected: u64,
+    ) -> io::Result<Tally> {
+        self.hex(out, name, crc16(0xFFFF, bytes) as u64, expected, 4)
     }
 
-    fn fnv(self, name: &[u8], bytes: &[u8], expected: u64) -> Tally {
-        self.hex(name, compat_key(bytes) as u64, expected, 8)
+    fn fnv(
+        self,
+        out: &mut impl Write,
+        name: &str,
+        bytes: &[u8],
+        expected: u64,
+    ) -> io::Result<Tally> {
+        self.hex(out, name, compat_key(bytes) as u64, expected, 8)
     }
 }
 
 // The CRC RevEng catalogue, CRC-16/IBM-3740 (alias CRC-16/CCITT-FALSE): check 0x29B1, start 0xFFFF.
-fn catalogue(t: Tally) -> Tally {
-    let t = t.crc(b"crc16 of 123456789", b"123456789", 0x29B1);
-    let t = t.crc(b"crc16 of nothing", b"", 0xFFFF);
+fn catalogue(out: &mut impl Write, t: Tally) -> io::Result<Tally> {
+    let t = t.crc(out, "crc16 of 123456789", b"123456789", 0x29B1)?;
+    let t = t.crc(out, "crc16 of nothing", b"", 0xFFFF)?;
     // Of one letter: the Rust's answer (oracle/tests/values.scn).
-    let t = t.crc(b"crc16 of A", b"A", 0xB915);
+    let t = t.crc(out, "crc16 of A", b"A", 0xB915)?;
     // In two parts: the comment on crc16 in tinyboot, lib/protocol/src/crc.rs.
     let first = crc16(0xFFFF, b"1234");
     t.hex(
-        b"crc16 of 1234, then 56789",
+        out,
+        "crc16 of 1234, then 56789",
         crc16(first, b"56789") as u64,
         0x29B1,
         4,
@@ -109,41 +118,43 @@ fn catalogue(t: Tally) -> Tally {
 }
 
 // AUTOSAR, Specification of CRC Routines, the table of CRC16 (0x1021, start 0xFFFF, nothing reflected).
-fn autosar(t: Tally) -> Tally {
-    let t = t.crc(b"crc16 of 00 00 00 00", b"\x00\x00\x00\x00", 0x84C0);
-    let t = t.crc(b"crc16 of F2 01 83", b"\xF2\x01\x83", 0xD374);
-    let t = t.crc(b"crc16 of 0F AA 00 55", b"\x0F\xAA\x00\x55", 0x2023);
-    let t = t.crc(b"crc16 of 00 FF 55 11", b"\x00\xFF\x55\x11", 0xB8F9);
+fn autosar(out: &mut impl Write, t: Tally) -> io::Result<Tally> {
+    let t = t.crc(out, "crc16 of 00 00 00 00", b"\x00\x00\x00\x00", 0x84C0)?;
+    let t = t.crc(out, "crc16 of F2 01 83", b"\xF2\x01\x83", 0xD374)?;
+    let t = t.crc(out, "crc16 of 0F AA 00 55", b"\x0F\xAA\x00\x55", 0x2023)?;
+    let t = t.crc(out, "crc16 of 00 FF 55 11", b"\x00\xFF\x55\x11", 0xB8F9)?;
     let t = t.crc(
-        b"crc16 of 33 22 55 AA BB CC DD EE FF",
+        out,
+        "crc16 of 33 22 55 AA BB CC DD EE FF",
         b"\x33\x22\x55\xAA\xBB\xCC\xDD\xEE\xFF",
         0xF53F,
-    );
-    let t = t.crc(b"crc16 of 92 6B 55", b"\x92\x6B\x55", 0x0745);
-    t.crc(b"crc16 of FF FF FF FF", b"\xFF\xFF\xFF\xFF", 0x1D0F)
+    )?;
+    let t = t.crc(out, "crc16 of 92 6B 55", b"\x92\x6B\x55", 0x0745)?;
+    t.crc(out, "crc16 of FF FF FF FF", b"\xFF\xFF\xFF\xFF", 0x1D0F)
 }
 
 // The FNV reference code, test_fnv.c, 32-bit FNV-1a.
-fn reference(t: Tally) -> Tally {
-    let t = t.fnv(b"compat_key of nothing", b"", 0x811C9DC5);
-    let t = t.fnv(b"compat_key of a", b"a", 0xE40C292C);
-    let t = t.fnv(b"compat_key of b", b"b", 0xE70C2DE5);
-    let t = t.fnv(b"compat_key of foo", b"foo", 0xA9F37ED7);
-    t.fnv(b"compat_key of foobar", b"foobar", 0xBF9CF968)
+fn reference(out: &mut impl Write, t: Tally) -> io::Result<Tally> {
+    let t = t.fnv(out, "compat_key of nothing", b"", 0x811C9DC5)?;
+    let t = t.fnv(out, "compat_key of a", b"a", 0xE40C292C)?;
+    let t = t.fnv(out, "compat_key of b", b"b", 0xE70C2DE5)?;
+    let t = t.fnv(out, "compat_key of foo", b"foo", 0xA9F37ED7)?;
+    t.fnv(out, "compat_key of foobar", b"foobar", 0xBF9CF968)
 }
 
 // 01, bench sheet 14.
-fn version(t: Tally) -> Tally {
+fn version(out: &mut impl Write, t: Tally) -> io::Result<Tally> {
     let t = t.decimal(
-        b"pack_version of 1.2.3, sheet ",
+        out,
+        "pack_version of 1.2.3, sheet ",
         14,
         pack_version(1, 2, 3) as u64,
         2179,
-    );
+    )?;
     let v = unpack_version(2179);
-    let t = t.decimal(b"major of ", 2179, v.major as u64, 1);
-    let t = t.decimal(b"minor of ", 2179, v.minor as u64, 2);
-    t.decimal(b"patch of ", 2179, v.patch as u64, 3)
+    let t = t.decimal(out, "major of ", 2179, v.major as u64, 1)?;
+    let t = t.decimal(out, "minor of ", 2179, v.minor as u64, 2)?;
+    t.decimal(out, "patch of ", 2179, v.patch as u64, 3)
 }
 
 fn index_of(found: BaudFound) -> u64 {
@@ -161,52 +172,57 @@ fn hz_of(found: BaudFound) -> u64 {
 }
 
 // An index to its rate, and the rate back to the index.
-fn rate(t: Tally, i: u8, hz: u32) -> Tally {
+fn rate(out: &mut impl Write, t: Tally, i: u8, hz: u32) -> io::Result<Tally> {
     let t = t.decimal(
-        b"rate of index ",
+        out,
+        "rate of index ",
         i as u64,
         hz_of(BaudRate::from_u8(i)),
         hz as u64,
-    );
+    )?;
     t.decimal(
-        b"index of rate ",
+        out,
+        "index of rate ",
         hz as u64,
         index_of(BaudRate::from_hz(hz)),
         i as u64,
     )
 }
 
-fn rates(t: Tally) -> Tally {
+fn rates(out: &mut impl Write, t: Tally) -> io::Result<Tally> {
     let mut t = t;
-    let mut i: u8 = 0;
-    while i < 14 {
-        t = rate(t, i, RATES[i as usize]);
-        i += 1;
+    for i in 0..14u8 {
+        t = rate(out, t, i, RATES[i as usize])?;
     }
-    t
+    Ok(t)
 }
 
 // 01, Record, flash, start: an index of 14 or more has no rate.
-fn no_rate(t: Tally) -> Tally {
+fn no_rate(out: &mut impl Write, t: Tally) -> io::Result<Tally> {
     let t = t.decimal(
-        b"no rate of index ",
+        out,
+        "no rate of index ",
         14,
         index_of(BaudRate::from_u8(14)),
         NONE,
-    );
+    )?;
     t.decimal(
-        b"no rate of index ",
+        out,
+        "no rate of index ",
         255,
         index_of(BaudRate::from_u8(255)),
         NONE,
     )
 }
 
-fn main() {
-    let t = reference(autosar(catalogue(Tally { ran: 0, differ: 0 })));
-    let t = no_rate(rates(version(t)));
-    number(t.ran);
-    put(b" vectors, ");
-    number(t.differ);
-    put(b" differ\n");
+fn main(rt: HostRuntime) -> io::Result<()> {
+    let mut out = BufWriter::new(rt.alloc(), io::writer(&rt))?;
+    let t = catalogue(&mut out, Tally { ran: 0, differ: 0 })?;
+    let t = autosar(&mut out, t)?;
+    let t = reference(&mut out, t)?;
+    let t = version(&mut out, t)?;
+    let t = rates(&mut out, t)?;
+    let t = no_rate(&mut out, t)?;
+    writeln!(out, "{} vectors, {} differ", t.ran, t.differ)?;
+    out.flush()
 }

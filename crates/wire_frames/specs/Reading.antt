@@ -1,7 +1,7 @@
 -- How a list of bytes is read as one stream, up to the end of its first frame (01, Frame bytes). `cap` is the payload capacity; `device` is true for a
 -- device, which overhears a frame whose status is not Request, and false for the desk, which reads every status.
-use Rattle.std.specs.Prelude.{ℕ, ◌+◌, List, [], ◌∷◌, Bool, true, false, not, ◌&&◌, ◌||◌, length, get_or, take, drop, ltb, eqb}
-use Rattle.laws.specs.Pick.{pick, if◌then◌else◌}
+use Rattle.std.specs.Prelude.{ℕ, ◌+◌, List, [], ◌∷◌, Bool, true, false, not, ◌&&◌, ◌||◌, length, get_or, take, drop, ltb, eqb, if◌then◌else◌}
+use Rattle.laws.specs.Pick.{pick}
 use Rattle.laws.specs.Low.{low_first}
 use Rattle.laws.specs.Lookup.{Lookup, none, some}
 use Rattle.wire_numbers.specs.declared.Status.{Status}

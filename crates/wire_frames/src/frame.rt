@@ -18,7 +18,7 @@ pub type FrameBytes = [u8; FRAME];
 
 // 64 bytes at the offsets of 01 (AA 55, header 2 to 9, data 10 to 61, the received CRC apart at 62 and 63), and how many bytes of a frame have
 // begun: 0 none, 1 an AA, 10 a header. The data area, 10 to 61, outlives the frame.
-#[derive(Drop)]
+#[derive(Clone, Copy)]
 pub struct Frame {
     pub bytes: FrameBytes,
     pub got: usize,
@@ -40,7 +40,7 @@ impl Frame {
 }
 
 // How a frame can end.
-#[derive(Drop)]
+#[derive(Clone, Copy)]
 pub enum Kind {
     Unsupported,
     PayloadOverflow,
@@ -50,7 +50,7 @@ pub enum Kind {
 }
 
 // A frame goes on, or is over.
-#[derive(Drop)]
+#[derive(Clone, Copy)]
 pub enum End {
     Going,
     Over(Kind),
@@ -58,7 +58,7 @@ pub enum End {
 
 // How a call stopped: the frame handed in was no true beginning; all bytes were taken; or a frame has ended, and how.
 // Flat: a variant that holds another enum is stored as two bytes and read back as one number, which stalls.
-#[derive(Drop)]
+#[derive(Clone, Copy)]
 pub enum Stop {
     Refused,
     Going,
@@ -70,7 +70,7 @@ pub enum Stop {
 }
 
 // What a call on a lent frame gives: how many bytes have begun, how many were taken, how it stopped.
-#[derive(Drop)]
+#[derive(Clone, Copy)]
 pub struct Passed {
     pub got: usize,
     pub taken: usize,

@@ -1,12 +1,14 @@
 // Translated from tinyboot, lib/protocol/src/frame.rs (MIT OR Apache-2.0): its `InfoData`; changed: read and laid byte by byte.
 
+#![tactic(auto)]
+
 ghost use Rattle.std.specs.Prelude.{◌≡◌};
 ghost use Rattle.wire_info.specs.Info.{info_bytes, info_laid_by, info_read};
 
 use wire_numbers::le;
 
 // What Info replies.
-#[derive(Drop)]
+#[derive(Clone, Copy)]
 pub struct InfoData {
     pub capacity: u32,
     pub erase_size: u16,

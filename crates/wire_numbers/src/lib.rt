@@ -1,4 +1,7 @@
 // Translated from tinyboot, lib/protocol/src/lib.rs (MIT OR Apache-2.0); changed.
+
+#![tactic(auto)]
+
 pub mod crc;
 pub mod le;
 
@@ -19,7 +22,7 @@ ghost use Rattle.wire_numbers.specs.Key.{fnv_step, key_of};
 use std::num::wrapping_add_u32;
 
 // Flags of a Write.
-#[derive(Drop)]
+#[derive(Clone, Copy)]
 pub struct WriteFlags {
     pub bits: u8,
 }
@@ -36,13 +39,13 @@ impl WriteFlags {
 }
 
 // Flags of a Reset.
-#[derive(Drop)]
+#[derive(Clone, Copy)]
 pub struct ResetFlags {
     pub bits: u8,
 }
 
 // How a restart goes on.
-#[derive(Drop)]
+#[derive(Clone, Copy)]
 pub enum RunMode {
     HandOff,
     Service,
@@ -86,7 +89,7 @@ impl ResetFlags {
 }
 
 // A version of 16 bits in its parts.
-#[derive(Drop)]
+#[derive(Clone, Copy)]
 pub struct Version {
     pub major: u8,
     pub minor: u8,
@@ -110,7 +113,7 @@ pub fn unpack_version(v: u16) -> Version
 }
 
 // Commands, host to device.
-#[derive(Drop)]
+#[derive(Clone, Copy)]
 pub enum Cmd {
     Info,
     Erase,
@@ -120,7 +123,7 @@ pub enum Cmd {
     Select,
 }
 
-#[derive(Drop)]
+#[derive(Clone, Copy)]
 pub enum CmdFound {
     Known(Cmd),
     Unknown,
@@ -156,7 +159,7 @@ impl Cmd {
 }
 
 // How a reply went; a request has one too.
-#[derive(Drop)]
+#[derive(Clone, Copy)]
 pub enum Status {
     Request,
     Ok,
@@ -168,7 +171,7 @@ pub enum Status {
     Incompatible,
 }
 
-#[derive(Drop)]
+#[derive(Clone, Copy)]
 pub enum StatusFound {
     Known(Status),
     Unknown,

@@ -1,10 +1,12 @@
 // The rates of the wire. Translated from tinyboot, lib/protocol/src/lib.rs (MIT OR Apache-2.0); changed.
 
+#![tactic(auto)]
+
 ghost use Rattle.std.specs.Prelude.{◌≡◌};
 ghost use Rattle.wire_rates.specs.Baud.{baud_index, baud_found_of, baud_lookup, hz_of, hz_lookup};
 
 // UART rates. A rate stands for its index on the wire and in the record.
-#[derive(Drop)]
+#[derive(Clone, Copy)]
 pub enum BaudRate {
     B9600,
     B19200,
@@ -22,7 +24,7 @@ pub enum BaudRate {
     B3000000,
 }
 
-#[derive(Drop)]
+#[derive(Clone, Copy)]
 pub enum BaudFound {
     Rate(BaudRate),
     NoRate,

@@ -1,6 +1,8 @@
 // The reader: takes the bytes of the wire into a frame, and stops where the frame ends. Translated from tinyboot, lib/protocol/src/frame.rs (MIT OR
 // Apache-2.0); changed: the blocking reader is a feed, which is handed the bytes as they come and goes on where it stopped.
 
+#![tactic(auto)]
+
 ghost use Rattle.std.specs.Prelude.{◌≡◌, true, false, leb, ◌+◌, ◌≤◌, ◌<◌, ◌++◌, ◌∷◌, [], length, get_or, take, drop};
 ghost use Rattle.std.proofs.Math.Seq.{paste};
 ghost use Rattle.laws.specs.Pick.{pick};
@@ -14,7 +16,7 @@ use wire_frames::sync::Sync;
 use wire_frames::{frame, sync};
 use wire_numbers::{crc, le};
 
-#[derive(Drop)]
+#[derive(Clone, Copy)]
 pub struct Taken {
     pub frame: Frame,
     pub taken: usize,

@@ -1,5 +1,7 @@
 // Translated from tinyboot, lib/protocol/src/frame.rs (MIT OR Apache-2.0): its `send`; changed: the whole is written into a lent room.
 
+#![tactic(auto)]
+
 ghost use Rattle.std.specs.Prelude.{◌≡◌, ◌≤◌, length, take};
 ghost use Rattle.laws.specs.Over.{over};
 ghost use Rattle.wire_sender.specs.Sent.{sealed, sent, send_of};
@@ -13,7 +15,7 @@ fn copy_out(f: &[u8], k: usize, room: &mut [u8])
     requires { (k ≤ length f.now) × (k ≤ length room.old) }
     ensures { room.new ≡ over (take k f.now) room.old }
 {
-    bytes::copy(&f[..k], room);
+    room[..k].copy_from_slice(&f[..k]);
 }
 
 // AA 55 at the start and the CRC right after n bytes of payload, for one write of the whole.
