@@ -4,7 +4,7 @@ use mathlib.Core.Path.{◌≡◌, refl, ap, sym, ◌∙◌}
 use mathlib.Core.List.{List, [], ◌∷◌, ◌++◌}
 use native.Mathlib.Omega.{arith}
 use lib.ListN.{length, take, drop, set, length-drop, take-append-drop}
-use lib.Seq.{drop-set-add, drop_at, take-set-le, take_all, length-take-le}
+use lib.Seq.{drop-set-add, drop_at, take-set-le, length-take-le}
 
 three : (r : List ℕ) (a b c : ℕ) → length r ≡ 3 → set (set (set r 0 a) 1 b) 2 c ≡ a ∷ b ∷ c ∷ []
 three [] a b c k = absurd (omega arith)
@@ -26,7 +26,5 @@ three_behind s n a b c k =
     sym (take-append-drop n (set y (n + 2) c)) ∙ ap (λ (v : List ℕ). v ++ drop n (set y (n + 2) c)) front ∙ ap (λ (v : List ℕ). take n s ++ v) back
 
 -- a copy over the first n
-pub laid_before : (f s r : List ℕ) (n : ℕ) → length f ≡ n → n ≤ length s → take (length f) f ++ drop (length f) (take n s ++ r) ≡ f ++ r
-laid_before f s r n e k =
-    ap (λ (v : List ℕ). v ++ drop (length f) (take n s ++ r)) (take_all (length f) f (omega arith)) ∙
-    ap (λ (v : List ℕ). f ++ v) (drop_at (take n s) r (length f) (length-take-le n s k ∙ sym e))
+pub laid_before : (f s r : List ℕ) (n : ℕ) → n ≤ length s → f ++ drop n (take n s ++ r) ≡ f ++ r
+laid_before f s r n k = ap (λ (v : List ℕ). f ++ v) (drop_at (take n s) r n (length-take-le n s k))

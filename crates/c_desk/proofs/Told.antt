@@ -1,11 +1,9 @@
 -- What the calls leave, case by case, over plain variables.
-use Prim.Native.Nat.{ℕ, ◌+◌, ◌^◌, ◌≤◌, ◌<◌}
+use Prim.Native.Nat.{ℕ, ◌^◌, ◌≤◌, ◌<◌}
 use mathlib.Core.Path.{◌≡◌, refl, ap, ◌∙◌}
 use mathlib.Core.List.{List, ◌∷◌, ◌++◌}
-use native.Mathlib.Omega.{arith}
 use borrow.Author.Tests.{lt-ltb, le-ltb, eq-eqb, ne_eqb}
-use lib.ListN.{length, get_or, take, drop}
-use lib.Seq.{take_all}
+use lib.ListN.{length, get_or}
 use lib.Dec.{eqb}
 use Rattle.laws.specs.Pick.{pick}
 use Rattle.laws.specs.Low.{low_bytes}
@@ -68,12 +66,11 @@ module _ (cap : ℕ) (f : List ℕ) (g : ℕ) (l heard : List ℕ) where
   not_heard h r e = simp (lt-ltb (length heard) 24 h) (ap (λ (x : ℕ). after_hear x f heard) e)
 
   pub done_heard : 24 ≤ length heard → (f' : List ℕ) (g' n : ℕ) (h : code.Heard) → hearing_to f' g' n h ≡ hear_part_of cap f g l →
-      (new : List ℕ) → new ≡ laid_bytes h g' n → (heard' : List ℕ) → heard' ≡ take (length new) new ++ drop (length new) heard → (r : ℕ) → r ≡ heard_number h →
+      (new : List ℕ) → new ≡ laid_bytes h g' n → (heard' : List ℕ) → heard' ≡ over new heard → (r : ℕ) → r ≡ heard_number h →
       after_hear r f' heard' ≡ c_heard cap f g l heard
   unfolding c_heard
   done_heard k f' g' n h e new en heard' eh r er =
-      let a : heard' ≡ over new heard = eh ∙ ap (λ (x : List ℕ). x ++ drop (length new) heard) (take_all (length new) new (omega arith)) in
       let b : over new heard ≡ over (heard_bytes (hearing_to f' g' n h)) heard = ap (λ (x : List ℕ). over x heard) (en ∙ laid-told h f' g' n) in
       let c : after_hear r f' heard' ≡ heard_to heard (hearing_to f' g' n h) =
-      ap (λ (x : ℕ). after_hear x f' heard') (er ∙ number_told h f') ∙ ap (after_hear (number_of (told_of h f')) f') (a ∙ b) in
+      ap (λ (x : ℕ). after_hear x f' heard') (er ∙ number_told h f') ∙ ap (after_hear (number_of (told_of h f')) f') (eh ∙ b) in
       c ∙ ap (heard_to heard) e ∙ simp (le-ltb (length heard) 24 k)

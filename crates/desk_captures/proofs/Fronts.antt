@@ -1,5 +1,6 @@
 -- What stands at a place of a capture, case by case over plain variables; and what is known of it.
-use Prim.Native.Nat.{ℕ, zero, suc, ◌+◌, ◌-◌, ◌≤◌, ◌<◌}
+use Rattle.std.specs.Prelude.{if◌then◌else◌}
+use Prim.Native.Nat.{ℕ, suc, ◌+◌, ◌-◌, ◌≤◌, ◌<◌}
 use mathlib.Core.Path.{◌≡◌, refl, ap, sym, subst, ◌∙◌}
 use mathlib.Core.Bool.{Bool, true, false}
 use mathlib.Core.List.{List, [], ◌∷◌}
@@ -9,7 +10,6 @@ use borrow.Author.Tests.{eq-eqb, ne_eqb, eqb-false, lt-ltb, le-ltb, ltb-false}
 use lib.ListN.{length, get_or, take, drop, length-drop, drop_of_length-le}
 use lib.Seq.{drop-cons}
 use lib.Dec.{eqb, ltb}
-use Rattle.laws.specs.Pick.{if◌then◌else◌}
 use Rattle.desk_captures.specs.declared.Found.{Found}
 use Rattle.desk_captures.specs.Captures.{is_mark, Front, nothing, stands, fault, counted_of, front_of, found_by, next_at, start_of, size_of, after_by}
 use Rattle.desk_captures.specs.Captures.{after_at, part_at, place_at, part_place}

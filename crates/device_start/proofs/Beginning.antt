@@ -1,5 +1,5 @@
 -- The two ends of a start.
-use Rattle.core.specs.Prelude.{◌≡◌, ℕ, Bool, true, false, eqb, List, length}
+use Rattle.std.specs.Prelude.{◌≡◌, ℕ, Bool, true, false, eqb, List, length}
 use mathlib.Core.Path.{sym, ◌∙◌}
 use Rattle.device_boot.specs.Start.{start_of}
 use Rattle.device_state.specs.declared.Setup.{Setup}

@@ -1,4 +1,5 @@
 -- A part lies at its place of the capture, and what a comparison shows is a record of the second.
+use Rattle.std.specs.Prelude.{if◌then◌else◌}
 use Prim.Native.Nat.{ℕ, zero, suc, ◌+◌, ◌≤◌}
 use mathlib.Core.Path.{◌≡◌, refl, ap, sym, subst, ◌∙◌}
 use mathlib.Core.Bool.{Bool, true, false, ◌&&◌}
@@ -7,7 +8,6 @@ use native.Mathlib.Omega.{arith}
 use lib.ListN.{length, take, drop, length-drop, take-append-drop}
 use lib.Seq.{length-take-le, drop-drop}
 use lib.Dec.{T, eqb}
-use Rattle.laws.specs.Pick.{if◌then◌else◌}
 use Rattle.desk_captures.specs.declared.Found.{Found}
 use Rattle.desk_captures.specs.declared.Compared.{Compared}
 use Rattle.desk_captures.specs.Captures.{Front, nothing, stands, fault, front_of, found_by, next_at, start_of, size_of, part_at, Reading, ended, faulty, next}

@@ -11,7 +11,6 @@ use Rattle.wire_frames.specs.declared.frame.Kind.{Kind}
 use Rattle.device_state.specs.declared.Setup.{Setup}
 use Rattle.device_state.specs.State.{World, closed_set, frame_set, numbers_set}
 use Rattle.device_handler.specs.Handling.{Obeyed}
-use Rattle.device_replies.specs.Answers.{reply, restart}
 use Rattle.device_replies.specs.Reply.{headed, spoken_by, reply_of}
 use Rattle.device_dispatcher.specs.Dispatch.{Ending, spoken_to, answered_of, dispatch_of}
 use Rattle.theorem_streams.proofs.Owed as owed

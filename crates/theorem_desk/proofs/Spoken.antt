@@ -14,7 +14,6 @@ use Rattle.wire_frames.specs.Fields.{cmd_of, status_of, len_of, data_of}
 use Rattle.wire_frames.specs.Reading.{overhears}
 use Rattle.wire_frames.specs.Stored.{ready, store}
 use Rattle.wire_sender.specs.Sent.{wire, sealed, sent, send_of}
-use Rattle.device_replies.specs.Answers.{Told}
 use Rattle.device_replies.specs.Reply.{headed, said_by, Spoken, reply_of}
 use Rattle.desk_replies.specs.declared.Head.{Head}
 use Rattle.desk_replies.specs.Replies as desk

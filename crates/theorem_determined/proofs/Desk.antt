@@ -12,8 +12,11 @@ use Rattle.desk_replies.specs.Replies.{Typed, info, verify, select, plain as byt
 use Rattle.theorem_determined.specs.Determined.{Determined, DeterminedBehind}
 use Rattle.theorem_determined.proofs.Apart.{plain}
 use Rattle.desk_requests.proofs as desk_requests
+use Rattle.desk_requests.specs.contracts as desk_requests_contracts
 use Rattle.desk_replies.proofs as desk_replies
+use Rattle.desk_replies.specs.contracts as desk_replies_contracts
 use Rattle.c_desk.proofs as c_desk
+use Rattle.c_desk.specs.contracts as c_desk_contracts
 
 -- what a request's writing answered, of what is told of it
 abbrev written_from : Wrote → Written
@@ -57,60 +60,60 @@ heard_back Heard.Refused f = refl
 heard_apart : (a b : Heard) (x y : List ℕ) → told_of a x ≡ told_of b y → a ≡ b
 heard_apart a b x y e = sym (heard_back a x) ∙ ap heard_from e ∙ heard_back b y
 
-pub write_request : Determined desk_requests.write_request.ended desk_requests.write_request.Reads.Post
+pub write_request : Determined desk_requests_contracts.write_request.ended desk_requests.write_request.Reads.Post
 write_request κs a o o' p q i =
     let e = plain p q in
     (written_apart o.0 o'.0 _ _ e i, (tt, (tt, ((e i).room, tt))))
 
-pub ask_info : Determined desk_requests.info.ended desk_requests.info.Reads.Post
+pub ask_info : Determined desk_requests_contracts.info.ended desk_requests.info.Reads.Post
 ask_info κs a o o' p q i =
     let e = plain p q in
     (written_apart o.0 o'.0 _ _ e i, ((e i).room, tt))
 
-pub ask_erase : Determined desk_requests.erase.ended desk_requests.erase.Reads.Post
+pub ask_erase : Determined desk_requests_contracts.erase.ended desk_requests.erase.Reads.Post
 ask_erase κs a o o' p q i =
     let e = plain p q in
     (written_apart o.0 o'.0 _ _ e i, (tt, (tt, ((e i).room, tt))))
 
-pub ask_write : Determined desk_requests.write.ended desk_requests.write.Reads.Post
+pub ask_write : Determined desk_requests_contracts.write.ended desk_requests.write.Reads.Post
 ask_write κs a o o' p q i =
     let e = plain p q in
     (written_apart o.0 o'.0 _ _ e i, (tt, (tt, (tt, ((e i).room, tt)))))
 
-pub ask_verify : Determined desk_requests.verify.ended desk_requests.verify.Reads.Post
+pub ask_verify : Determined desk_requests_contracts.verify.ended desk_requests.verify.Reads.Post
 ask_verify κs a o o' p q i =
     let e = plain p q in
     (written_apart o.0 o'.0 _ _ e i, (tt, ((e i).room, tt)))
 
-pub ask_reset : Determined desk_requests.reset.ended desk_requests.reset.Reads.Post
+pub ask_reset : Determined desk_requests_contracts.reset.ended desk_requests.reset.Reads.Post
 ask_reset κs a o o' p q i =
     let e = plain p q in
     (written_apart o.0 o'.0 _ _ e i, (tt, (tt, ((e i).room, tt))))
 
-pub ask_select : Determined desk_requests.select.ended desk_requests.select.Reads.Post
+pub ask_select : Determined desk_requests_contracts.select.ended desk_requests.select.Reads.Post
 ask_select κs a o o' p q i =
     let e = plain p q in
     (written_apart o.0 o'.0 _ _ e i, (tt, (tt, (tt, ((e i).room, tt)))))
 
 -- it answers a reference
-pub data_of : DeterminedBehind desk_replies.data_of.ended (λ κs r. r.now) desk_replies.data_of.Reads.Post
+pub data_of : DeterminedBehind desk_replies_contracts.data_of.ended (λ κs r. r.now) desk_replies.data_of.Reads.Post
 data_of κs a o o' p q i = (plain p q i, o.1)
 
-pub hear_part : Determined desk_replies.hear_part.ended desk_replies.hear_part.Reads.Post
+pub hear_part : Determined desk_replies_contracts.hear_part.ended desk_replies.hear_part.Reads.Post
 hear_part κs a o o' p q i =
     let e = plain p q in (
       record { got = (e i).got; taken = (e i).taken; heard = heard_apart o.0.heard o'.0.heard _ _ (λ j. (e j).told) i },
       ((e i).bytes, (tt, (tt, tt))),
     )
 
-pub hear_in : Determined desk_replies.hear_in.ended desk_replies.hear_in.Reads.Post
+pub hear_in : Determined desk_replies_contracts.hear_in.ended desk_replies.hear_in.Reads.Post
 hear_in κs a o o' p q i =
     let e = plain p q in (
       record { got = (e i).got; taken = (e i).taken; heard = heard_apart o.0.heard o'.0.heard _ _ (λ j. (e j).told) i },
       ((e i).bytes, (tt, (tt, tt))),
     )
 
-pub hear : Determined desk_replies.hear.ended desk_replies.hear.Reads.Post
+pub hear : Determined desk_replies_contracts.hear.ended desk_replies.hear.Reads.Post
 hear κs a o o' p q i =
     let e = plain p q in (
       record {
@@ -121,37 +124,37 @@ hear κs a o o' p q i =
       (tt, (tt, tt)),
     )
 
-pub tinyboot_request_info : Determined c_desk.tinyboot_request_info.ended c_desk.tinyboot_request_info.Reads.Post
+pub tinyboot_request_info : Determined c_desk_contracts.tinyboot_request_info.ended c_desk.tinyboot_request_info.Reads.Post
 tinyboot_request_info κs a o o' p q i =
     let e = plain p q in
     ((e i).result, ((e i).room, tt))
 
-pub tinyboot_request_erase : Determined c_desk.tinyboot_request_erase.ended c_desk.tinyboot_request_erase.Reads.Post
+pub tinyboot_request_erase : Determined c_desk_contracts.tinyboot_request_erase.ended c_desk.tinyboot_request_erase.Reads.Post
 tinyboot_request_erase κs a o o' p q i =
     let e = plain p q in
     ((e i).result, (tt, (tt, ((e i).room, tt))))
 
-pub tinyboot_request_write : Determined c_desk.tinyboot_request_write.ended c_desk.tinyboot_request_write.Reads.Post
+pub tinyboot_request_write : Determined c_desk_contracts.tinyboot_request_write.ended c_desk.tinyboot_request_write.Reads.Post
 tinyboot_request_write κs a o o' p q i =
     let e = plain p q in
     ((e i).result, (tt, (tt, (tt, ((e i).room, tt)))))
 
-pub tinyboot_request_verify : Determined c_desk.tinyboot_request_verify.ended c_desk.tinyboot_request_verify.Reads.Post
+pub tinyboot_request_verify : Determined c_desk_contracts.tinyboot_request_verify.ended c_desk.tinyboot_request_verify.Reads.Post
 tinyboot_request_verify κs a o o' p q i =
     let e = plain p q in
     ((e i).result, (tt, ((e i).room, tt)))
 
-pub tinyboot_request_reset : Determined c_desk.tinyboot_request_reset.ended c_desk.tinyboot_request_reset.Reads.Post
+pub tinyboot_request_reset : Determined c_desk_contracts.tinyboot_request_reset.ended c_desk.tinyboot_request_reset.Reads.Post
 tinyboot_request_reset κs a o o' p q i =
     let e = plain p q in
     ((e i).result, (tt, (tt, ((e i).room, tt))))
 
-pub tinyboot_request_select : Determined c_desk.tinyboot_request_select.ended c_desk.tinyboot_request_select.Reads.Post
+pub tinyboot_request_select : Determined c_desk_contracts.tinyboot_request_select.ended c_desk.tinyboot_request_select.Reads.Post
 tinyboot_request_select κs a o o' p q i =
     let e = plain p q in
     ((e i).result, (tt, (tt, (tt, ((e i).room, tt)))))
 
-pub tinyboot_hear : Determined c_desk.tinyboot_hear.ended c_desk.tinyboot_hear.Reads.Post
+pub tinyboot_hear : Determined c_desk_contracts.tinyboot_hear.ended c_desk.tinyboot_hear.Reads.Post
 tinyboot_hear κs a o o' p q i =
     let e = plain p q in
     ((e i).result, ((e i).frame, (tt, (tt, ((e i).heard, tt)))))

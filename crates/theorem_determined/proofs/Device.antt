@@ -4,50 +4,61 @@ use Rattle.theorem_determined.proofs.Apart.{plain, refusal_apart, answer_apart, 
 use Rattle.wire_numbers.proofs.Apart.{status_apart, mode_apart}
 use Rattle.wire_frames.proofs.Apart.{kind_apart}
 use Rattle.device_state.proofs as device_state
+use Rattle.device_state.specs.contracts as device_state_contracts
 use Rattle.device_boot.proofs as device_boot
+use Rattle.device_boot.specs.contracts as device_boot_contracts
 use Rattle.device_start.proofs as device_start
+use Rattle.device_start.specs.contracts as device_start_contracts
 use Rattle.device_early.proofs as device_early
+use Rattle.device_early.specs.contracts as device_early_contracts
 use Rattle.device_mend.proofs as device_mend
+use Rattle.device_mend.specs.contracts as device_mend_contracts
 use Rattle.device_handler.proofs as device_handler
+use Rattle.device_handler.specs.contracts as device_handler_contracts
 use Rattle.device_turns.proofs as device_turns
+use Rattle.device_turns.specs.contracts as device_turns_contracts
 use Rattle.device_replies.proofs as device_replies
+use Rattle.device_replies.specs.contracts as device_replies_contracts
 use Rattle.device_dispatcher.proofs as device_dispatcher
+use Rattle.device_dispatcher.specs.contracts as device_dispatcher_contracts
 use Rattle.device_feed.proofs as device_feed
+use Rattle.device_feed.specs.contracts as device_feed_contracts
 use Rattle.device_in_place.proofs as device_in_place
+use Rattle.device_in_place.specs.contracts as device_in_place_contracts
 
-pub refusal_number_lem : Determined device_state.refusal.refusal_number.ended device_state.refusal.refusal_number.Reads.Post
-refusal_number_lem κs a o o' p q i = (plain p q i, o.1)
+pub refusal_number : Determined device_state_contracts.refusal.refusal_number.ended device_state.refusal.refusal_number.Reads.Post
+refusal_number κs a o o' p q i = (plain p q i, o.1)
 
-pub is_none : Determined device_state.refusal.Refusal.is_none.ended device_state.refusal.Refusal.is_none.Reads.Post
+pub is_none : Determined device_state_contracts.refusal.Refusal.is_none.ended device_state.refusal.Refusal.is_none.Reads.Post
 is_none κs a o o' p q i = (plain p q i, o.1)
 
-pub fits : Determined device_state.refusal.fits.ended device_state.refusal.fits.Reads.Post
+pub fits : Determined device_state_contracts.refusal.fits.ended device_state.refusal.fits.Reads.Post
 fits κs a o o' p q i = (plain p q i, o.1)
 
-pub set_up_lem : Determined device_state.refusal.set_up.ended device_state.refusal.set_up.Reads.Post
-set_up_lem κs a o o' p q i = (plain p q i, o.1)
+pub set_up : Determined device_state_contracts.refusal.set_up.ended device_state.refusal.set_up.Reads.Post
+set_up κs a o o' p q i = (plain p q i, o.1)
 
-pub run_fits_lem : Determined device_state.refusal.run_fits.ended device_state.refusal.run_fits.Reads.Post
-run_fits_lem κs a o o' p q i = (plain p q i, o.1)
+pub run_fits : Determined device_state_contracts.refusal.run_fits.ended device_state.refusal.run_fits.Reads.Post
+run_fits κs a o o' p q i = (plain p q i, o.1)
 
-pub well_formed_lem : Determined device_state.refusal.well_formed.ended device_state.refusal.well_formed.Reads.Post
-well_formed_lem κs a o o' p q i = (plain p q i, o.1)
+pub well_formed : Determined device_state_contracts.refusal.well_formed.ended device_state.refusal.well_formed.Reads.Post
+well_formed κs a o o' p q i = (plain p q i, o.1)
 
-pub of_lengths : Determined device_state.refusal.of_lengths.ended device_state.refusal.of_lengths.Reads.Post
+pub of_lengths : Determined device_state_contracts.refusal.of_lengths.ended device_state.refusal.of_lengths.Reads.Post
 of_lengths κs a o o' p q i = (refusal_apart o.0 o'.0 (plain p q) i, o.1)
 
-pub refuses : Determined device_state.refusal.refuses.ended device_state.refusal.refuses.Reads.Post
+pub refuses : Determined device_state_contracts.refusal.refuses.ended device_state.refusal.refuses.Reads.Post
 refuses κs a o o' p q i = (refusal_apart o.0 o'.0 (plain p q) i, o.1)
 
-pub check_boot_state : Determined device_boot.core.check_boot_state.ended device_boot.core.check_boot_state.Reads.Post
+pub check_boot_state : Determined device_boot_contracts.boot_core.check_boot_state.ended device_boot.boot_core.check_boot_state.Reads.Post
 check_boot_state κs a o o' p q i =
     let e = plain p q in
     (mode_apart o.0 o'.0 (λ j. (e j).mode) i, (tt, (tt, (tt, (tt, ((e i).meta, tt))))))
 
-pub new_state_lem : Determined device_start.new_state.ended device_start.new_state.Reads.Post
-new_state_lem κs a o o' p q i = (plain p q i, o.1)
+pub new_state : Determined device_start_contracts.new_state.ended device_start.new_state.Reads.Post
+new_state κs a o o' p q i = (plain p q i, o.1)
 
-pub start : Determined device_start.start.ended device_start.start.Reads.Post
+pub start : Determined device_start_contracts.start.ended device_start.start.Reads.Post
 start κs a o o' p q i =
     let e = plain p q in (
       record {
@@ -58,33 +69,33 @@ start κs a o o' p q i =
       (tt, (tt, (tt, ((e i).meta, tt)))),
     )
 
-pub outlook_number_lem : Determined device_early.outlook_number.ended device_early.outlook_number.Reads.Post
-outlook_number_lem κs a o o' p q i = (plain p q i, o.1)
+pub outlook_number : Determined device_early_contracts.outlook_number.ended device_early.outlook_number.Reads.Post
+outlook_number κs a o o' p q i = (plain p q i, o.1)
 
-pub is_sizeless : Determined device_early.is_sizeless.ended device_early.is_sizeless.Reads.Post
+pub is_sizeless : Determined device_early_contracts.is_sizeless.ended device_early.is_sizeless.Reads.Post
 is_sizeless κs a o o' p q i = (plain p q i, o.1)
 
-pub early : Determined device_early.early.ended device_early.early.Reads.Post
+pub early : Determined device_early_contracts.early.ended device_early.early.Reads.Post
 early κs a o o' p q i = (outlook_apart o.0 o'.0 (plain p q) i, o.1)
 
-pub mend_number_lem : Determined device_mend.mend_number.ended device_mend.mend_number.Reads.Post
-mend_number_lem κs a o o' p q i = (plain p q i, o.1)
+pub mend_number : Determined device_mend_contracts.mend_number.ended device_mend.mend_number.Reads.Post
+mend_number κs a o o' p q i = (plain p q i, o.1)
 
-pub mend : Determined device_mend.mend.ended device_mend.mend.Reads.Post
+pub mend : Determined device_mend_contracts.mend.ended device_mend.mend.Reads.Post
 mend κs a o o' p q i =
     let e = plain p q in
     (mended_apart o.0 o'.0 (λ j. (e j).refusal) (λ j. (e j).count) i, (tt, ((e i).meta, ((e i).list, tt))))
 
-pub is_ok : Determined device_handler.is_ok.ended device_handler.is_ok.Reads.Post
+pub is_ok : Determined device_handler_contracts.is_ok.ended device_handler.is_ok.Reads.Post
 is_ok κs a o o' p q i = (plain p q i, o.1)
 
-pub bare : Determined device_handler.bare.ended device_handler.bare.Reads.Post
+pub bare : Determined device_handler_contracts.bare.ended device_handler.bare.Reads.Post
 bare κs a o o' p q i = (plain p q i, o.1)
 
-pub loaded : Determined device_handler.loaded.ended device_handler.loaded.Reads.Post
+pub loaded : Determined device_handler_contracts.loaded.ended device_handler.loaded.Reads.Post
 loaded κs a o o' p q i = (plain p q i, o.1)
 
-pub handle : Determined device_handler.handle.ended device_handler.handle.Reads.Post
+pub handle : Determined device_handler_contracts.handle.ended device_handler.handle.Reads.Post
 handle κs a o o' p q i =
     let e = plain p q in (
       record {
@@ -96,80 +107,80 @@ handle κs a o o' p q i =
       (tt, ((e i).left.state.frame, ((e i).left.state.page, (tt, ((e i).left.flash, ((e i).left.meta, tt)))))),
     )
 
-pub why_number_lem : Determined device_turns.why_number.ended device_turns.why_number.Reads.Post
-why_number_lem κs a o o' p q i = (plain p q i, o.1)
+pub why_number : Determined device_turns_contracts.why_number.ended device_turns.why_number.Reads.Post
+why_number κs a o o' p q i = (plain p q i, o.1)
 
-pub decide : Determined device_turns.decide.ended device_turns.decide.Reads.Post
+pub decide : Determined device_turns_contracts.decide.ended device_turns.decide.Reads.Post
 decide κs a o o' p q i = let e = plain p q in ((e i).turn, (tt, (tt, (tt, ((e i).bytes, (tt, tt))))))
 
-pub mode_number_lem : Determined device_replies.mode_number.ended device_replies.mode_number.Reads.Post
-mode_number_lem κs a o o' p q i = (plain p q i, o.1)
+pub mode_number : Determined device_replies_contracts.mode_number.ended device_replies.mode_number.Reads.Post
+mode_number κs a o o' p q i = (plain p q i, o.1)
 
-pub unsaid : Determined device_replies.unsaid.ended device_replies.unsaid.Reads.Post
+pub unsaid : Determined device_replies_contracts.unsaid.ended device_replies.unsaid.Reads.Post
 unsaid κs a o o' p q i =
     let e = plain p q in
     (record { number = (e i).number; mode = (e i).mode; len = (e i).len; wait = (e i).wait; why = (e i).why }, o.1)
 
-pub numbers_of : Determined device_replies.numbers_of.ended device_replies.numbers_of.Reads.Post
+pub numbers_of : Determined device_replies_contracts.numbers_of.ended device_replies.numbers_of.Reads.Post
 numbers_of κs a o o' p q i =
     let e = plain p q in
     (record { number = (e i).number; mode = (e i).mode; len = (e i).len; wait = (e i).wait; why = (e i).why }, o.1)
 
-pub reply : Determined device_replies.reply.ended device_replies.reply.Reads.Post
+pub reply : Determined device_replies_contracts.reply.ended device_replies.reply.Reads.Post
 reply κs a o o' p q i =
     let e = plain p q in
     (answer_apart o.0 o'.0 (λ j. (e j).told) i, (tt, (tt, (tt, (tt, ((e i).bytes, ((e i).room, tt)))))))
 
-pub is_good : Determined device_dispatcher.is_good.ended device_dispatcher.is_good.Reads.Post
+pub is_good : Determined device_dispatcher_contracts.is_good.ended device_dispatcher.is_good.Reads.Post
 is_good κs a o o' p q i = (plain p q i, o.1)
 
-pub status_of_lem : Determined device_dispatcher.status_of.ended device_dispatcher.status_of.Reads.Post
-status_of_lem κs a o o' p q i = (status_apart o.0 o'.0 (plain p q) i, o.1)
+pub status_of : Determined device_dispatcher_contracts.status_of.ended device_dispatcher.status_of.Reads.Post
+status_of κs a o o' p q i = (status_apart o.0 o'.0 (plain p q) i, o.1)
 
-pub id_len_lem : Determined device_dispatcher.id_len.ended device_dispatcher.id_len.Reads.Post
-id_len_lem κs a o o' p q i = (plain p q i, o.1)
+pub id_len : Determined device_dispatcher_contracts.id_len.ended device_dispatcher.id_len.Reads.Post
+id_len κs a o o' p q i = (plain p q i, o.1)
 
-pub dispatch : Determined device_dispatcher.dispatch.ended device_dispatcher.dispatch.Reads.Post
+pub dispatch : Determined device_dispatcher_contracts.dispatch.ended device_dispatcher.dispatch.Reads.Post
 dispatch κs a o o' p q i =
     let e = plain p q in (
       record { answer = answer_apart o.0.answer o'.0.answer (λ j. (e j).told) i; numbers = (e i).left.state.numbers },
       (tt, (tt, ((e i).left.state.frame, ((e i).left.state.page, (tt, ((e i).left.flash, ((e i).left.meta, ((e i).room, tt)))))))),
     )
 
-pub refused : Determined device_feed.refused.ended device_feed.refused.Reads.Post
+pub refused : Determined device_feed_contracts.refused.ended device_feed.refused.Reads.Post
 refused κs a o o' p q i = (answer_apart o.0 o'.0 (plain p q) i, o.1)
 
-pub is_going : Determined device_feed.is_going.ended device_feed.is_going.Reads.Post
+pub is_going : Determined device_feed_contracts.is_going.ended device_feed.is_going.Reads.Post
 is_going κs a o o' p q i = (plain p q i, o.1)
 
-pub kind_of : Determined device_feed.kind_of.ended device_feed.kind_of.Reads.Post
+pub kind_of : Determined device_feed_contracts.kind_of.ended device_feed.kind_of.Reads.Post
 kind_of κs a o o' p q i = (kind_apart o.0 o'.0 (plain p q) i, o.1)
 
-pub begun : Determined device_feed.begun.ended device_feed.begun.Reads.Post
+pub begun : Determined device_feed_contracts.begun.ended device_feed.begun.Reads.Post
 begun κs a o o' p q i = (plain p q i, o.1)
 
-pub feed_in : Determined device_feed.feed_in.ended device_feed.feed_in.Reads.Post
+pub feed_in : Determined device_feed_contracts.feed_in.ended device_feed.feed_in.Reads.Post
 feed_in κs a o o' p q i =
     let e = plain p q in (
       record { numbers = (e i).left.state.numbers; taken = (e i).taken; answer = answer_apart o.0.answer o'.0.answer (λ j. (e j).told) i },
       (tt, (tt, ((e i).left.state.frame, ((e i).left.state.page, (tt, ((e i).left.flash, ((e i).left.meta, ((e i).room, tt)))))))),
     )
 
-pub feed : Determined device_feed.feed.ended device_feed.feed.Reads.Post
+pub feed : Determined device_feed_contracts.feed.ended device_feed.feed.Reads.Post
 feed κs a o o' p q i =
     let e = plain p q in (
       record { state = (e i).left.state; taken = (e i).taken; answer = answer_apart o.0.answer o'.0.answer (λ j. (e j).told) i },
       (tt, (tt, (tt, ((e i).left.flash, ((e i).left.meta, ((e i).room, tt)))))),
     )
 
-pub feed_on : Determined device_in_place.feed_on.ended device_in_place.feed_on.Reads.Post
+pub feed_on : Determined device_in_place_contracts.feed_on.ended device_in_place.feed_on.Reads.Post
 feed_on κs a o o' p q i =
     let e = plain p q in (
       record { numbers = (e i).numbers; taken = (e i).taken; answer = answer_apart o.0.answer o'.0.answer (λ j. (e j).told) i },
       (tt, (tt, ((e i).bytes, (tt, ((e i).flash, ((e i).meta, ((e i).room, tt))))))),
     )
 
-pub byte_on_lem : Determined device_in_place.byte_on.ended device_in_place.byte_on.Reads.Post
-byte_on_lem κs a o o' p q i =
+pub byte_on : Determined device_in_place_contracts.byte_on.ended device_in_place.byte_on.Reads.Post
+byte_on κs a o o' p q i =
     let e = plain p q in
     ((e i).done, (tt, (tt, (tt, (tt, (tt, ((e i).bytes, (tt, (tt, (tt, (tt, tt)))))))))))

@@ -73,7 +73,9 @@ pub byte_answered : (said : Said) → told_by said ≡ mute 0 → (result : ℕ)
 byte_answered said k result kr state f m r answer a ka x e =
     let z : result ≡ 0 = kr ∙ ap (λ (v : Told). v.number) k in
     let b : Bool = ltb (length answer) 16 in
-    rw (z, ka, k) (ap (λ (y : AfterFeed). after_feed y.result y.state y.flash y.meta y.reply (pick b answer y.answer)) e)
+    ap (λ (v : ℕ). after_feed v state f m r a) z ∙
+    ap (λ (y : List ℕ). after_feed 0 state f m r y) (ka ∙ ap (λ (t : Told). answered t 1 answer) k) ∙
+    ap (λ (y : AfterFeed). after_feed y.result y.state y.flash y.meta y.reply (pick b answer y.answer)) e
 
 module _ (setup state : List ℕ) (h : holds_state 52 64 state ≡ true) (byte : (i : ℕ) → i < length state → get_or state i 0 < 256) (b flash meta room : ℕ)
     (after : List ℕ)

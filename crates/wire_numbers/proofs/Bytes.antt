@@ -1,4 +1,4 @@
--- What `le` writes it reads again, at every width; that what it reads it writes again is `low-write` of laws.
+-- What `le` writes it reads again, at every width; that what it reads it writes again is `low_write` of laws.
 use Rattle.std.proofs.Common.{◌≡◌, ℕ, ◌^◌, ◌<◌, ◌∙◌, mod-eq_of_lt}
 use Rattle.laws.specs.Low.{low_first, low_bytes}
 use Rattle.laws.proofs.Low.{low_read}

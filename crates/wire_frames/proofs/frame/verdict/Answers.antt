@@ -1,0 +1,31 @@
+use mathlib.Core.Path.{◌≡◌, ap, sym, ◌∙◌}
+use mathlib.Core.Bool.{Bool, true, false}
+use Rattle.laws.specs.Pick.{pick}
+use Rattle.wire_frames.specs.declared.frame.Kind.{Kind}
+use Rattle.wire_frames.specs.declared.frame.End.{End}
+use Rattle.wire_frames.specs.declared.frame.End.TheVariants.{Over}
+use Rattle.wire_frames.specs.Reading.{end_status, header_of}
+use Rattle.wire_frames.proofs.Reading.{header_strange, header-going, header_long}
+use Rattle.wire_frames.proofs.frame.verdict.Goals as goal
+
+-- t is whether the frame is overheard
+told : (t b : Bool) → t ≡ b → (x : End) → x ≡ Over (pick t Kind.Overheard Kind.PayloadOverflow) →
+    end_status (Over (pick b Kind.Overheard Kind.PayloadOverflow)) ≡ end_status x
+told t b e x k = ap (λ (v : Bool). end_status (Over (pick v Kind.Overheard Kind.PayloadOverflow))) (sym e) ∙ ap end_status (sym k)
+
+pub returns-then-strange : goal.returns-then-strange
+returns-then-strange c =
+    let a = c.args in
+    ap end_status (sym (header_strange 52 a.device a.cmd a.status a.len (sym c.strange.ensures ∙ c.if-strange.true)))
+
+pub returns-then-len-le-DEFAULT_PAYLOAD : goal.returns-then-len-le-DEFAULT_PAYLOAD
+returns-then-len-le-DEFAULT_PAYLOAD c =
+    let a = c.args in
+    ap end_status
+    (sym (header-going 52 a.device a.cmd a.status a.len (sym c.strange.ensures ∙ c.if-strange.false) c.if-len-le-DEFAULT_PAYLOAD.true))
+
+pub returns-then-heard : goal.returns-then-heard
+returns-then-heard c = told _ true c.if-heard.true _ ((let known : (let a = c.args in header_of 52 a.device a.cmd a.status a.len ≡ Over (pick c.heard.result Kind.Overheard Kind.PayloadOverflow)) = let a = c.args in header_long 52 a.device a.cmd a.status a.len (sym c.strange.ensures ∙ c.if-strange.false) c.if-len-le-DEFAULT_PAYLOAD.false c.heard.result (sym c.heard.ensures) in known))
+
+pub returns : goal.returns
+returns c = told _ false c.if-heard.false _ ((let known : (let a = c.args in header_of 52 a.device a.cmd a.status a.len ≡ Over (pick c.heard.result Kind.Overheard Kind.PayloadOverflow)) = let a = c.args in header_long 52 a.device a.cmd a.status a.len (sym c.strange.ensures ∙ c.if-strange.false) c.if-len-le-DEFAULT_PAYLOAD.false c.heard.result (sym c.heard.ensures) in known))
