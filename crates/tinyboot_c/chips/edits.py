@@ -6,14 +6,19 @@ EXPORTED = re.compile(r"^define (noundef(?: zeroext)?) (\S+) @(tinyboot_\w+)\((.
 # Not inlined, where there are such: each is called in several places, and a copy in each costs more than the calls. Another name costs size alone. One
 # device's list is shorter: its constants have to reach the tests of them.
 APART = ("wire_numbers::crc::crc16", "wire_numbers::le::read32", "wire_frames::fields::addr", "tinyboot_c::layout::four", "device_state::refusal::fits",
-         "tinyboot_c::layout::id_from", "wire_frames::frame::well", "device_feed::kind_of", "c_layout::lay_taken")
-ONE_APART = ("wire_numbers::crc::crc16", "wire_frames::fields::addr", "device_feed::is_going", "c_layout::lay_taken", "wire_frames::frame::well")
+         "tinyboot_c::layout::id_from", "wire_frames::frame::well", "device_feed::kind_of", "c_layout::lay_taken", "c_layout::flag",
+         "device_state::refusal::run_fits", "cmd_write::page_out")
+ONE_APART = ("wire_numbers::crc::crc16", "wire_frames::fields::addr", "device_feed::is_going", "c_layout::lay_taken", "wire_frames::frame::well",
+             "store_record::boot_meta_store::refresh")
 # One device does without the shorter way for a single byte: it answers whether it has taken the byte, and where it has not the byte goes the long way.
 SHORTCUT = "tinyboot_c::feeding::fed_byte"
 # On a small target the CRC goes byte by byte: `crc16` hands the whole message to the function that takes its last bytes, as `crc16_by_byte` does in the source,
 # under the same contract. Words of 64 bits would cost more there than they save.
 CRC = "wire_numbers::crc::crc16"
 BY_BYTE = "wire_numbers::crc::rest"
+# A slice that is copied into another asks first whether the two overlap, which they do not: one of them is a &mut. copy_from_slice alone calls it.
+COPY = "core::ptr::copy_drop::copy_bits::<i8>"
+MEMCPY = "declare void @llvm.memcpy.p0.p0.i64(ptr noalias writeonly, ptr noalias readonly, i64, i1 immarg)"
 # The bits of a number that are set, the zeros above them and the zeros below them, by loops.
 ROUND = """
 define internal i32 @{name}(i32 %n{unused}) minsize optsize nounwind {{
@@ -45,7 +50,7 @@ COUNTS = {
 def plain(ir):
     """Nothing of x86-64 in it."""
     ir = re.sub(r"^target (datalayout|triple) = .*\n", "", ir, flags=re.M)
-    return re.sub(r' "(probe-stack|target-cpu|target-features)"="[^"]*"', "", ir)
+    return re.sub(r' "(probe-stack|stack-probe-size|target-cpu|target-features)"="[^"]*"', "", ir)
 
 
 def outside(line, bits):
@@ -76,11 +81,18 @@ def outside(line, bits):
 
 def bytewise(ir):
     """The CRC a byte at a time."""
-    taken = "(i16 noundef %a0, ptr noundef %a1)"
+    taken = "(i16 noundef %a0, ptr noundef %a1, i64 noundef %a2)"
     if f'@"{BY_BYTE}"{taken}' not in ir:
         return ir
-    body = f'  %said = call i16 @"{BY_BYTE}"(i16 %a0, ptr %a1)\n  ret i16 %said\n}}'
+    body = f'  %said = call i16 @"{BY_BYTE}"(i16 %a0, ptr %a1, i64 %a2)\n  ret i16 %said\n}}'
     return re.sub(rf'^(define internal noundef i16 @"{CRC}"{re.escape(taken)} [^\n]*\{{\n).*?^}}$', lambda found: found.group(1) + body, ir, flags=re.M | re.S)
+
+
+def copied(ir):
+    """A slice copied into another, with no test for what cannot be."""
+    body = "  call void @llvm.memcpy.p0.p0.i64(ptr %a1, ptr %a0, i64 %a2, i1 false)\n  ret void\n}"
+    ir, found = re.subn(rf'^(define internal void @"{re.escape(COPY)}"\([^\n]*\{{\n).*?^}}$', lambda seen: seen.group(1) + body, ir, flags=re.M | re.S)
+    return ir + MEMCPY + "\n" if found and "declare void @llvm.memcpy" not in ir else ir
 
 
 def edited(ir, bits, one):
@@ -92,7 +104,8 @@ def edited(ir, bits, one):
         calls.append(call)
     ir = "\n".join(lines) + "\n" + "".join(calls)
     if bits < 64:
-        ir = bytewise(re.sub(r"\balign 8\b", "align 4", ir))
+        ir = copied(ir)
+        ir = bytewise(re.sub(r"\balign 8\b", "align 4", ir.replace(" ptrtoaddr ", " ptrtoint ")))
     if one:
         ir = re.sub(rf'^(define internal [^\n]* i1 @"{re.escape(SHORTCUT)}"\([^\n]*\{{\n).*?^}}$', r"\1  ret i1 false\n}", ir, flags=re.M | re.S)
     for name in ONE_APART if one else APART:

@@ -1,22 +1,21 @@
-/* The device side of tinyboot as a static library: libtinyboot_c.a, which `rt staticlib tinyboot_c` writes for x86-64, ../archive for other machines, and
- * ../chip for small controllers (rv32ec, rv32imac, thumbv6m, thumbv7em).
+/* The device side of tinyboot as a static library: libtinyboot_c.a, which ../archive writes for x86-64 and aarch64, and ../chip for small controllers (rv32ec,
+ * rv32imac, thumbv6m, thumbv7em).
  *
  * docs/C.md is the page to read first; docs/WIRE.md has the frames, the statuses, what an image is and a whole update; ../example/loop.c is a module in C.
  *
  * The library keeps nothing between calls: all that a device is stands in the caller's buffers. The flash is an array in memory, not a chip's
  * flash; an erase and a write change the array. The library wants memcpy, memmove and memset of the C library, and nothing else.
  *
- * What is proved of each call is the definition of its name in ../specs/Calls.antt (tinyboot_feed: cFed, tinyboot_start: cStarted), in c_start
- * (tinyboot_new_state: cNew) and in c_app (tinyboot_set_baud: cSetBaud), with the layouts of ../../c_layout/specs/Layout.antt and
+ * What is proved of each call is the definition of its name in ../specs/Calls.antt (tinyboot_feed: c_fed, tinyboot_start: c_started), in c_start
+ * (tinyboot_new_state: c_new) and in c_app (tinyboot_set_baud: c_set_baud), with the layouts of ../../c_layout/specs/Layout.antt and
  * ../../c_app/specs/App.antt. It is proved of buffers as slices, so it holds where the caller keeps to this:
  *   - a pointer and a length name that many bytes that the call may read, or read and write where the pointer is not const; no pointer is null, even at
  *     length 0;
  *   - no buffer that a call writes overlaps another buffer of the same call.
  * The functions marked `static inline` are C and not proved; they only lay and read bytes at the places below.
  *
- * What is proved are the functions, not each way to an object. ../archive (but on x86-64) and ../chip compile the kit's LLVM module again, ../chip after edits
- * of it, and neither that nor the edits are proved: ../chip-run runs what comes out under an emulator, which shows no alignment trap and not RV32E's smaller
- * register file (docs/C.md, On a controller). On a controller the flash is an array in memory too, no chip's flash registers are driven, and on rv32ec and
+ * What is proved are the functions, not each way to an object. ../chip edits the kit's LLVM module and compiles it again, and neither is proved: ../chip-run
+ * runs what comes out under an emulator, which shows no alignment trap and not RV32E's smaller register file (docs/C.md, On a controller). On a controller the flash is an array in memory too, no chip's flash registers are driven, and on rv32ec and
  * thumbv6m the library also wants the compiler's own routine for a remainder.
  *
  * What the caller owes besides:
