@@ -1,12 +1,12 @@
 /* The desk's side of tinyboot as a static library: libc_desk.a, which `crates/tinyboot_c/archive FOLDER c_desk` writes, and `crates/tinyboot_c/chip --desk` for
- * small controllers, by a way that is not proved (docs/C.md, On a controller). It needs nothing of libtinyboot_c.a, the module's side, and can be linked beside it;
- * its numbers are those of tinyboot.h, which this header includes (crates/tinyboot_c/include).
+ * small controllers, by a way that is not proved (docs/C.md, On a controller). It needs nothing of libtinyboot_c.a, the module's side, and can be linked beside
+ * it; its numbers are those of tinyboot.h, which this header includes (crates/tinyboot_c/include).
  *
  * docs/C.md, The desk, is the page to read first; ../example/desk.c has a desk and a module in one process.
  *
- * What is proved of each call is a definition of ../specs/Desk.antt (c_asked, c_heard) or ../specs/Captures.antt (c_next, c_compared), over those of desk_requests,
- * desk_replies and desk_captures. As with tinyboot.h a pointer and
- * a length name that many bytes, no pointer is null, and no buffer that a call writes overlaps another. The functions marked `static inline` are C and not proved.
+ * What is proved of each call is a definition of ../specs/Desk.antt (c_asked, c_heard) or ../specs/Captures.antt (c_next, c_compared), over those of
+ * desk_requests, desk_replies and desk_captures. As with tinyboot.h a pointer and a length name that many bytes, no pointer is null, and no buffer that a call
+ * writes overlaps another. The functions marked `static inline` are C and not proved.
  */
 #ifndef TINYBOOT_DESK_H
 #define TINYBOOT_DESK_H

@@ -15,8 +15,9 @@
  * The functions marked `static inline` are C and not proved; they only lay and read bytes at the places below.
  *
  * What is proved are the functions, not each way to an object. ../chip edits the kit's LLVM module and compiles it again, and neither is proved: ../chip-run
- * runs what comes out under an emulator, which shows no alignment trap and not RV32E's smaller register file (docs/C.md, On a controller). On a controller the flash is an array in memory too, no chip's flash registers are driven, and on rv32ec and
- * thumbv6m the library also wants the compiler's own routine for a remainder.
+ * runs what comes out under an emulator, which shows no alignment trap and not RV32E's smaller register file (docs/C.md, On a controller). On a controller the
+ * flash is an array in memory too, no chip's flash registers are driven, and on rv32ec and thumbv6m the library also wants the compiler's own routine for a
+ * remainder.
  *
  * What the caller owes besides:
  *   - at power-on tinyboot_start comes first: it decides whether the app is run, and gives the first state. tinyboot_new_state decides nothing, and nothing
