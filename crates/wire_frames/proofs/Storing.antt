@@ -107,7 +107,8 @@ module _ (cap : ℕ) (device : Bool) (f : List ℕ) (whole : length f ≡ 12 + c
       store-store cap f whole p (p ++ x) (simp length-take (omega arith)) (simp (length-take, length-append, z) (omega arith)) (omega (arith, o.short))
       (near z (leb (length p) (10 + len_of p)) refl)
     where
-      near : len_of (p ++ x) ≡ len_of p → (t : Bool) → leb (length p) (10 + len_of p) ≡ t → (10 + len_of (p ++ x) < length (p ++ x)) ⊎ (length p ≤ 10 + len_of p)
+      near : len_of (p ++ x) ≡ len_of p → (t : Bool) → leb (length p) (10 + len_of p) ≡ t →
+          (10 + len_of (p ++ x) < length (p ++ x)) ⊎ (length p ≤ 10 + len_of p)
       near z true w = inr (leb-true _ _ w)
       near z false w = let u : 10 + len_of p < length p = leb-false _ _ w in inl (simp (z, length-append) (omega arith))
 

@@ -13,8 +13,8 @@ use Rattle.wire_info.specs.declared.InfoData.{InfoData}
 -- the eighteen bytes, of each number's
 pub laid : (d : InfoData) (c e v a k p : List ℕ) → c ≡ low_bytes 4 d.capacity → e ≡ low_bytes 2 d.erase_size → v ≡ low_bytes 2 d.boot_version →
     a ≡ low_bytes 2 d.app_version → k ≡ low_bytes 4 d.compat → p ≡ low_bytes 2 d.max_payload →
-    get_or c 0 0 ∷ get_or c 1 0 ∷ get_or c 2 0 ∷ get_or c 3 0 ∷ get_or e 0 0 ∷ get_or e 1 0 ∷ get_or v 0 0 ∷ get_or v 1 0 ∷ get_or a 0 0 ∷ get_or a 1 0 ∷ d.mode ∷
-    d.boot_baud ∷ get_or k 0 0 ∷ get_or k 1 0 ∷ get_or k 2 0 ∷ get_or k 3 0 ∷ get_or p 0 0 ∷ get_or p 1 0 ∷ [] ≡ info_laid_by d
+    get_or c 0 0 ∷ get_or c 1 0 ∷ get_or c 2 0 ∷ get_or c 3 0 ∷ get_or e 0 0 ∷ get_or e 1 0 ∷ get_or v 0 0 ∷ get_or v 1 0 ∷ get_or a 0 0 ∷ get_or a 1 0 ∷
+    d.mode ∷ d.boot_baud ∷ get_or k 0 0 ∷ get_or k 1 0 ∷ get_or k 2 0 ∷ get_or k 3 0 ∷ get_or p 0 0 ∷ get_or p 1 0 ∷ [] ≡ info_laid_by d
 laid d c e v a k p ec ee ev ea ek ep = rw (ec, ee, ev, ea, ek, ep) refl
 
 -- a number of two bytes, and of four, of the bytes one by one

@@ -1,5 +1,6 @@
 -- The steps of a byte, and of eight, at once: both sides respect xor, so that the powers of two are all there is to try.
-use Rattle.std.proofs.Common.{◌≡◌, ℕ, ◌+◌, ◌-◌, ◌*◌, ◌/◌, ◌%◌, ◌^◌, ◌<◌, List, [], ◌∷◌, length, take, drop, sym, ap, ◌∙◌, ap₂, add-zero, arith, length-drop, take_all, pow_pos}
+use Rattle.std.proofs.Common.{◌≡◌, ℕ, ◌+◌, ◌-◌, ◌*◌, ◌/◌, ◌%◌, ◌^◌, ◌<◌, List, [], ◌∷◌, length, take, drop}
+use Rattle.std.proofs.Common.{sym, ap, ◌∙◌, ap₂, add-zero, arith, length-drop, take_all, pow_pos}
 use lib.Bits.{bit_xor, xor_lt, xor_block, xor_shifted}
 use Rattle.laws.specs.Fold.{fold}
 use Rattle.laws.specs.Low.{low_first}

@@ -1,5 +1,6 @@
 -- A byte that enters at the register's high end, with eight steps after it, is the textbook's eight bits one by one.
-use Rattle.std.proofs.Common.{◌≡◌, ℕ, zero, suc, ◌*◌, ◌/◌, ◌%◌, ◌^◌, ◌<◌, List, [], ◌∷◌, ◌++◌, length, get_or, sym, refl, ap, ◌∙◌, ap₂, append_assoc, suc-le-suc, zero-lt-suc, arith}
+use Rattle.std.proofs.Common.{◌≡◌, ℕ, zero, suc, ◌*◌, ◌/◌, ◌%◌, ◌^◌, ◌<◌, List, [], ◌∷◌, ◌++◌, length, get_or}
+use Rattle.std.proofs.Common.{sym, refl, ap, ◌∙◌, ap₂, append_assoc, suc-le-suc, zero-lt-suc, arith}
 use lib.Bits.{bit_xor, xor_lt, xor_mod, xor_shifted, xor_zero_r}
 use Rattle.laws.specs.Fold.{fold}
 use Rattle.laws.proofs.Folds.{parts}

@@ -4,7 +4,7 @@ use Rattle.laws.specs.Pick.{pick}
 use Rattle.wire_frames.specs.declared.frame.Kind.{Kind}
 use Rattle.wire_frames.specs.declared.frame.End.{End}
 use Rattle.wire_frames.specs.declared.frame.End.TheVariants.{Over}
-use Rattle.wire_frames.specs.Reading.{end_status, header_of}
+use Rattle.wire_frames.specs.Reading.{end_status}
 use Rattle.wire_frames.proofs.Reading.{header_strange, header-going, header_long}
 use Rattle.wire_frames.proofs.frame.verdict.Goals as goal
 
@@ -25,7 +25,13 @@ returns-then-len-le-DEFAULT_PAYLOAD c =
     (sym (header-going 52 a.device a.cmd a.status a.len (sym c.strange.ensures ∙ c.if-strange.false) c.if-len-le-DEFAULT_PAYLOAD.true))
 
 pub returns-then-heard : goal.returns-then-heard
-returns-then-heard c = told _ true c.if-heard.true _ ((let known : (let a = c.args in header_of 52 a.device a.cmd a.status a.len ≡ Over (pick c.heard.result Kind.Overheard Kind.PayloadOverflow)) = let a = c.args in header_long 52 a.device a.cmd a.status a.len (sym c.strange.ensures ∙ c.if-strange.false) c.if-len-le-DEFAULT_PAYLOAD.false c.heard.result (sym c.heard.ensures) in known))
+returns-then-heard c =
+    let a = c.args in
+    told _ true c.if-heard.true _
+    (header_long 52 a.device a.cmd a.status a.len (sym c.strange.ensures ∙ c.if-strange.false) c.if-len-le-DEFAULT_PAYLOAD.false _ (sym c.heard.ensures))
 
 pub returns : goal.returns
-returns c = told _ false c.if-heard.false _ ((let known : (let a = c.args in header_of 52 a.device a.cmd a.status a.len ≡ Over (pick c.heard.result Kind.Overheard Kind.PayloadOverflow)) = let a = c.args in header_long 52 a.device a.cmd a.status a.len (sym c.strange.ensures ∙ c.if-strange.false) c.if-len-le-DEFAULT_PAYLOAD.false c.heard.result (sym c.heard.ensures) in known))
+returns c =
+    let a = c.args in
+    told _ false c.if-heard.false _
+    (header_long 52 a.device a.cmd a.status a.len (sym c.strange.ensures ∙ c.if-strange.false) c.if-len-le-DEFAULT_PAYLOAD.false _ (sym c.heard.ensures))
