@@ -76,7 +76,8 @@ module _ (at : ℕ) (l k : List ℕ) where
     told_by_lem (stands m n) (stands o i) x y e = let w = simp (ne_eqb m 0 x.0) at e in rw w refl
 
     turn_by : (f g : Front) → Known l f → Known k g → same_by f g ≡ true →
-        (compared (joined at l f r) (joined at k g s) ≡ compared r s) × ((count_of f ≡ count_of g) × ((after_by at (found_by at f) ≡ past at f) × (2 ≤ length l)))
+        (compared (joined at l f r) (joined at k g s) ≡ compared r s) ×
+        ((count_of f ≡ count_of g) × ((after_by at (found_by at f) ≡ past at f) × (2 ≤ length l)))
     unfolding compared
     turn_by nothing g x y e = absurd (untrue e)
     turn_by (fault code) g x y e = absurd (untrue e)

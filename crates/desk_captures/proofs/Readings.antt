@@ -28,7 +28,8 @@ abbrev pub past : ℕ → Front → ℕ
 past at f = at + suc (suc (count_of f))
 
 -- what is read is what stands at the front, and then what follows
-pub front_read : (at : ℕ) (l : List ℕ) → read_from 0 at l ≡ joined at l (front_of l) (read_from 0 (past at (front_of l)) (drop (suc (suc (count_of (front_of l)))) l))
+pub front_read : (at : ℕ) (l : List ℕ) →
+    read_from 0 at l ≡ joined at l (front_of l) (read_from 0 (past at (front_of l)) (drop (suc (suc (count_of (front_of l)))) l))
 unfolding read_from front_of
 front_read at [] = refl
 front_read at (b ∷ l) =

@@ -91,6 +91,18 @@ module _ (new old : List ℕ) (w : length new ≡ 12) (n : length old ≡ 12) wh
       h ∙ ap (λ (z : List ℕ). sets z (4 * k) (take 4 (drop (4 * k) new))) (e ∙ cut_some k new old n) ∙ word_cells (whole new w) k r
       ∙ sym (cut_some (suc k) new old n)
 
+  -- a is the record erased, and b, c and d what its words made of it in turn
+  module _ (a b : List ℕ) (ea : a ≡ sets old 0 blank) (eb : b ≡ sets a 0 (take 4 (drop 0 new))) where
+    pub one_word : b ≡ cut_after 2 new old
+    one_word = step_word 0 (omega arith) a b (step_erase a ea) eb
+
+    module _ (c : List ℕ) (ec : c ≡ sets b 4 (take 4 (drop 4 new))) where
+      pub two_words : c ≡ cut_after 3 new old
+      two_words = step_word 1 (omega arith) b c one_word ec
+
+      pub three_words : (d : List ℕ) → d ≡ sets c 8 (take 4 (drop 8 new)) → d ≡ cut_after 4 new old
+      three_words d ed = step_word 2 (omega arith) c d two_words ed
+
   -- so many steps are asked, and as many are done; or more than there are
   pub steps_done : (b : List ℕ) (s j : ℕ) → s ≡ j → b ≡ cut_after j new old → b ≡ cut_after s new old
   steps_done b s j e h = h ∙ ap (λ (z : ℕ). cut_after z new old) (sym e)

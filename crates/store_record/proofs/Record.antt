@@ -59,11 +59,27 @@ refreshed-fields m n = refreshed_cells (whole m n)
 
 -- stored alone: the fields that they are, and every other kept
 state_cells : {m : List ℕ} → Whole m → (v : ℕ) → fields_of (set m 0 v)
-    ≡ record { state = v; trials = trials_of m; checksum = checksum_of m; size = size_of m; baud = baud_of m; position = position_of m; reserved = reserved_of m }
+    ≡ record {
+      state = v;
+      trials = trials_of m;
+      checksum = checksum_of m;
+      size = size_of m;
+      baud = baud_of m;
+      position = position_of m;
+      reserved = reserved_of m;
+    }
 state_cells (cells a b c d e f g h i j k l) v = refl
 
 trials_cells : {m : List ℕ} → Whole m → (v : ℕ) → fields_of (set m 1 v)
-    ≡ record { state = state_of m; trials = v; checksum = checksum_of m; size = size_of m; baud = baud_of m; position = position_of m; reserved = reserved_of m }
+    ≡ record {
+      state = state_of m;
+      trials = v;
+      checksum = checksum_of m;
+      size = size_of m;
+      baud = baud_of m;
+      position = position_of m;
+      reserved = reserved_of m;
+    }
 trials_cells (cells a b c d e f g h i j k l) v = refl
 
 row_cells : {m : List ℕ} → Whole m → (v w : ℕ) → fields_of (row_set m v w)
@@ -95,7 +111,15 @@ pub trial_fields : (m : List ℕ) → length m ≡ 12 → fields_of (trial_used 
 trial_fields m n = trials_cells (whole m n) (half (trials_of m))
 
 pub row_fields : (m : List ℕ) (baud position : ℕ) → length m ≡ 12 → fields_of (row_set m baud position)
-    ≡ record { state = state_of m; trials = trials_of m; checksum = checksum_of m; size = size_of m; baud = baud; position = position; reserved = reserved_of m }
+    ≡ record {
+      state = state_of m;
+      trials = trials_of m;
+      checksum = checksum_of m;
+      size = size_of m;
+      baud = baud;
+      position = position;
+      reserved = reserved_of m;
+    }
 row_fields m baud position n = row_cells (whole m n) baud position
 
 -- the position alone, where no number need fit

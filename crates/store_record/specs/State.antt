@@ -16,4 +16,6 @@ state_read v = pick (eqb v 0xFF) 0xFF (pick (eqb v 0x3F) 0x3F 0x7F)
 
 -- the sign of an app: a first word that is not all ones; a flash of fewer than four bytes has none
 unfoldable pub app_present : List ℕ → Bool
-app_present f = leb 4 (length f) && not (eqb (get_or f 0 0xFF) 0xFF && (eqb (get_or f 1 0xFF) 0xFF && (eqb (get_or f 2 0xFF) 0xFF && eqb (get_or f 3 0xFF) 0xFF)))
+app_present f =
+    leb 4 (length f) &&
+    not (eqb (get_or f 0 0xFF) 0xFF && (eqb (get_or f 1 0xFF) 0xFF && (eqb (get_or f 2 0xFF) 0xFF && eqb (get_or f 3 0xFF) 0xFF)))

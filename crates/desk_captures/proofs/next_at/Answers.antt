@@ -1,9 +1,6 @@
-use Prim.Native.Nat.{◌+◌, ◌-◌}
-use mathlib.Core.Path.{◌≡◌}
+use Prim.Native.Nat.{◌+◌}
 use native.Mathlib.Omega.{arith}
-use lib.ListN.{length, get_or}
-use Rattle.desk_captures.specs.Captures.{next_at}
-use Rattle.desk_captures.proofs.Fronts.{counted_at, is_zero, is_short, is_record_lem, at_end, at_unknown, at_alone, at_count}
+use Rattle.desk_captures.proofs.Fronts.{is_zero, is_short, is_record_lem, at_end, at_unknown, at_alone, at_count}
 use Rattle.desk_captures.proofs.next_at.Goals as goal
 
 pub returns-then-capture-at : goal.returns-then-capture-at
@@ -25,10 +22,19 @@ overflow_cast-len c =
     omega (arith, c.type_inv.capture (a.at + 1))
 
 pub returns-then-len-lt1 : goal.returns-then-len-lt1
-returns-then-len-lt1 c = is_zero _ _ _ _ _ ((let known : (let a = c.args in let s = a.capture.now in next_at s a.at ≡ counted_at a.at (get_or s a.at 0) (get_or s (a.at + 1) 0) (length s - a.at - 2)) = let a = c.args in at_count a.capture.now a.at c.if-capture-at.false _ c.is_mark.ensures (c.if-not-is_mark.false) c.if-left-lt2.false in known)) c.if-len-lt1.true
+returns-then-len-lt1 c =
+    let a = c.args in
+    is_zero _ _ _ _ _ (at_count a.capture.now a.at c.if-capture-at.false _ c.is_mark.ensures c.if-not-is_mark.false c.if-left-lt2.false)
+    c.if-len-lt1.true
 
 pub returns-then-left-len : goal.returns-then-left-len
-returns-then-left-len c = is_short _ _ _ _ _ ((let known : (let a = c.args in let s = a.capture.now in next_at s a.at ≡ counted_at a.at (get_or s a.at 0) (get_or s (a.at + 1) 0) (length s - a.at - 2)) = let a = c.args in at_count a.capture.now a.at c.if-capture-at.false _ c.is_mark.ensures (c.if-not-is_mark.false) c.if-left-lt2.false in known)) c.if-len-lt1.false c.if-left-len.true
+returns-then-left-len c =
+    let a = c.args in
+    is_short _ _ _ _ _ (at_count a.capture.now a.at c.if-capture-at.false _ c.is_mark.ensures c.if-not-is_mark.false c.if-left-lt2.false)
+    c.if-len-lt1.false c.if-left-len.true
 
 pub returns : goal.returns
-returns c = is_record_lem _ _ _ _ _ ((let known : (let a = c.args in let s = a.capture.now in next_at s a.at ≡ counted_at a.at (get_or s a.at 0) (get_or s (a.at + 1) 0) (length s - a.at - 2)) = let a = c.args in at_count a.capture.now a.at c.if-capture-at.false _ c.is_mark.ensures (c.if-not-is_mark.false) c.if-left-lt2.false in known)) c.if-len-lt1.false c.if-left-len.false
+returns c =
+    let a = c.args in
+    is_record_lem _ _ _ _ _ (at_count a.capture.now a.at c.if-capture-at.false _ c.is_mark.ensures c.if-not-is_mark.false c.if-left-lt2.false)
+    c.if-len-lt1.false c.if-left-len.false

@@ -1,10 +1,5 @@
-use Prim.Native.Nat.{◌+◌}
-use mathlib.Core.Path.{◌≡◌, refl}
+use mathlib.Core.Path.{refl}
 use native.Mathlib.Omega.{arith}
-use lib.ListN.{get_or, drop}
-use lib.Dec.{eqb}
-use mathlib.Core.Bool.{◌&&◌}
-use Rattle.desk_captures.specs.Captures.{alike}
 use Rattle.desk_captures.proofs.Comparing.{alike-lengths, one_more, alike_ended, ones_same, ones_apart}
 use Rattle.desk_captures.proofs.same_bytes.Goals as goal
 
@@ -15,10 +10,14 @@ pub loop-i-init : goal.loop-i-init
 loop-i-init c = refl
 
 pub returns-then-p-i : goal.returns-then-p-i
-returns-then-p-i c = ones_apart _ _ _ _ ((let known : (let p = c.args.p.now in let q = c.args.q.now in let i = c.loop-i.i in alike p q ≡ (eqb (get_or p i 0) (get_or q i 0) && alike (drop (i + 1) p) (drop (i + 1) q))) = let a = c.args in let h = c.loop-i-test.true in one_more a.p.now a.q.now c.loop-i.i c.loop-i.invariant h (omega (arith, c.if-p-q.false, h)) in known)) c.if-p-i.true
+returns-then-p-i c =
+    let a = c.args in
+    ones_apart _ _ _ _ (one_more a.p.now a.q.now c.loop-i.i c.loop-i.invariant c.loop-i-test.true (omega (arith, c.if-p-q.false))) c.if-p-i.true
 
 pub loop-i-preserved : goal.loop-i-preserved
-loop-i-preserved c = ones_same _ _ _ _ ((let known : (let p = c.args.p.now in let q = c.args.q.now in let i = c.loop-i.i in alike p q ≡ (eqb (get_or p i 0) (get_or q i 0) && alike (drop (i + 1) p) (drop (i + 1) q))) = let a = c.args in let h = c.loop-i-test.true in one_more a.p.now a.q.now c.loop-i.i c.loop-i.invariant h (omega (arith, c.if-p-q.false, h)) in known)) c.if-p-i.false
+loop-i-preserved c =
+    let a = c.args in
+    ones_same _ _ _ _ (one_more a.p.now a.q.now c.loop-i.i c.loop-i.invariant c.loop-i-test.true (omega (arith, c.if-p-q.false))) c.if-p-i.false
 
 pub returns : goal.returns
 returns c =

@@ -7,7 +7,8 @@ use Rattle.store_flash.proofs.storage.program.Given as goal
 
 abbrev pub invariant-loop-j : goal.invariant-loop-j
 invariant-loop-j l =
-    (l.j ≤ length l.bytes) × (length l.flash ≡ length l.initial.flash) × (written l.flash (l.at + l.j) (drop l.j l.bytes) ≡ written l.initial.flash l.at l.bytes)
+    (l.j ≤ length l.bytes) × (length l.flash ≡ length l.initial.flash) ×
+    (written l.flash (l.at + l.j) (drop l.j l.bytes) ≡ written l.initial.flash l.at l.bytes)
 
 abbrev pub decreases-loop-j : goal.decreases-loop-j
 decreases-loop-j l = l.n - l.j
