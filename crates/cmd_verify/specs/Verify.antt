@@ -20,7 +20,10 @@ key_at size = (size + 0xFFFFFFFA) % 2 ^ 32
 
 -- the key there, low byte first
 abbrev pub key_in : List ℕ → ℕ → ℕ
-key_in flash at = low_first (slice_index_or flash at 0xFF ∷ slice_index_or flash (at + 1) 0xFF ∷ slice_index_or flash (at + 2) 0xFF ∷ slice_index_or flash (at + 3) 0xFF ∷ [])
+key_in flash at =
+    low_first
+    (slice_index_or flash at 0xFF ∷ slice_index_or flash (at + 1) 0xFF ∷
+    slice_index_or flash (at + 2) 0xFF ∷ slice_index_or flash (at + 3) 0xFF ∷ [])
 
 -- an unset key fits every image; a set one stands at a multiple of 4 below the capacity
 unfoldable pub key_fits : ℕ → ℕ → List ℕ → ℕ → Bool

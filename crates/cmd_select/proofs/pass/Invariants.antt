@@ -8,7 +8,9 @@ use Rattle.cmd_select.proofs.pass.Given as goal
 
 abbrev pub invariant-loop-i : goal.invariant-loop-i
 invariant-loop-i l =
-    (l.i ≤ length l.uid) × (l.rem ≡ bit_count_of l.initial.f - 8 * l.i) × (eqb l.diff 0 ≡ agree (bit_count_of l.initial.f - l.rem) l.uid (prefix_of l.initial.f)) × (l.f ≡ paste l.initial.f 10 l.uid l.i)
+    (l.i ≤ length l.uid) × (l.rem ≡ bit_count_of l.initial.f - 8 * l.i) ×
+    (eqb l.diff 0 ≡ agree (bit_count_of l.initial.f - l.rem) l.uid (prefix_of l.initial.f)) ×
+    (l.f ≡ paste l.initial.f 10 l.uid l.i)
 
 abbrev pub decreases-loop-i : goal.decreases-loop-i
 decreases-loop-i l = length l.uid - l.i
