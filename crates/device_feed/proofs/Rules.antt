@@ -16,8 +16,8 @@ use Rattle.device_feed.specs.Feed.{after_read, taken_of, fed_of}
 
 -- a frame: its reading, Info, Select, and its reply
 unfoldable pub frame_rules : Type 0
-unfolding begun store hunt started verdict_of overhears checked dispatch_of turn_of obeyed_of handled_of answered_of reply_of send_of sealed info_of app_version state_read
-    app_present select_of matches agree slot_of copied crc_from bits_of bits entered fold
+unfolding begun store hunt started verdict_of overhears checked dispatch_of turn_of obeyed_of handled_of answered_of reply_of
+    send_of sealed info_of app_version state_read app_present select_of matches agree slot_of copied crc_from bits_of bits entered fold
 frame_rules = Unit {0}
 
 -- a call: its refusals, and its frame

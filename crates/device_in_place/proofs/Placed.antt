@@ -27,7 +27,8 @@ module _ (s t : List ℕ) (d : drop 64 t ≡ drop 64 s) where
   split = sym (take-append-drop 64 t) ∙ ap (λ (x : List ℕ). take 64 t ++ x) (d ∙ sym (take-append-drop 64 (drop 64 s)))
 
   -- r is what the reader left of the frame
-  pub on_quiet : (r : Read) → r.bytes ≡ take 64 t → (n : Numbers) (flash meta room : List ℕ) (x : Called) → quiet_by r (world_in 52 64 s n flash meta) room ≡ x →
+  pub on_quiet : (r : Read) → r.bytes ≡ take 64 t → (n : Numbers) (flash meta room : List ℕ) (x : Called) →
+      quiet_by r (world_in 52 64 s n flash meta) room ≡ x →
       record { told = mute 0; taken = r.taken; numbers = got_set r.got n; bytes = t; flash = flash; meta = meta; room = room } ≡ on_by (rest_in 52 64 s) x
   on_quiet r b n flash meta room x e =
       ap (λ (v : List ℕ). record { told = mute 0; taken = r.taken; numbers = got_set r.got n; bytes = v; flash = flash; meta = meta; room = room })

@@ -7,7 +7,10 @@ use Rattle.wire_reader.proofs.Loop.{Inv}
 use Rattle.wire_reader.proofs.pass.Given as goal
 
 abbrev pub invariant-loop-i : goal.invariant-loop-i
-invariant-loop-i l = Inv 52 l.device l.bytes (out_of 52 l.initial.f (length l.bytes) (read_frame 52 l.device (begun 52 l.initial.f l.start ++ l.bytes))) l.f l.got l.i
+invariant-loop-i l =
+    Inv 52 l.device l.bytes
+    (out_of 52 l.initial.f (length l.bytes) (read_frame 52 l.device (begun 52 l.initial.f l.start ++ l.bytes)))
+    l.f l.got l.i
 
 abbrev pub decreases-loop-i : goal.decreases-loop-i
 decreases-loop-i l = length l.bytes - l.i

@@ -1,6 +1,3 @@
-use Prim.Native.Nat.{◌+◌, ◌≤◌, ◌<◌}
-use mathlib.Core.Path.{◌≡◌}
-use Rattle.wire_frames.specs.Fields.{len_of}
 use Rattle.wire_frames.proofs.Reading.{going_size}
 use Rattle.wire_frames.proofs.Steps.{low_step, high_step}
 use native.Mathlib.Omega.{arith}
@@ -10,16 +7,17 @@ pub returns-then-got-n : goal.returns-then-got-n
 returns-then-got-n c =
     let a = c.args in
     let p = c.requires in
-    low_step 52 a.device a.f.now a.got p.2 p.0 a.b (omega (arith, (let known : (let a = c.args in (c.len-n.result ≡ len_of a.f.now) × (len_of a.f.now ≤ 52) × (10 + len_of a.f.now ≤ a.got) × (a.got < 12 + len_of a.f.now)) = let a = c.args in let p = c.requires in (c.len-n.ensures.0, going_size 52 a.device a.f.now (p.2.going p.0), p.1, p.2.inside p.0) in known)))
+    low_step 52 a.device a.f.now a.got p.2 p.0 a.b (omega (arith, p.1, p.2.inside p.0, c.len-n.ensures.0, going_size 52 a.device a.f.now (p.2.going p.0)))
 
 pub finish-kind-requires : goal.finish-kind-requires
 finish-kind-requires c =
+    let a = c.args in
     let p = c.requires in
-    (p.2.whole, omega (arith, (let known : (let a = c.args in (c.len-n.result ≡ len_of a.f.now) × (len_of a.f.now ≤ 52) × (10 + len_of a.f.now ≤ a.got) × (a.got < 12 + len_of a.f.now)) = let a = c.args in let p = c.requires in (c.len-n.ensures.0, going_size 52 a.device a.f.now (p.2.going p.0), p.1, p.2.inside p.0) in known)), c.len-n.ensures.0)
+    (p.2.whole, omega (arith, c.len-n.ensures.0, going_size 52 a.device a.f.now (p.2.going p.0)), c.len-n.ensures.0)
 
 pub returns-else-got-n : goal.returns-else-got-n
 returns-else-got-n c =
     let a = c.args in
     let p = c.requires in
     rw (c.finish-kind.ensures, c.len-n.ensures.0)
-    (high_step 52 a.device a.f.now a.got p.2 p.0 a.b (omega (arith, (let known : (let a = c.args in (c.len-n.result ≡ len_of a.f.now) × (len_of a.f.now ≤ 52) × (10 + len_of a.f.now ≤ a.got) × (a.got < 12 + len_of a.f.now)) = let a = c.args in let p = c.requires in (c.len-n.ensures.0, going_size 52 a.device a.f.now (p.2.going p.0), p.1, p.2.inside p.0) in known))))
+    (high_step 52 a.device a.f.now a.got p.2 p.0 a.b (omega (arith, p.1, p.2.inside p.0, c.len-n.ensures.0, going_size 52 a.device a.f.now (p.2.going p.0))))
