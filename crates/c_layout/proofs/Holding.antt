@@ -16,7 +16,8 @@ holds_size l e = eqb-true (length l) 136 (and_both (eqb (length l) 136) (ltb (ge
 pub holds_flags : (l : List ℕ) → holds_state 52 64 l ≡ true → (get_or l 134 0 < 2) × (get_or l 135 0 < 2)
 unfolding holds_state
 holds_flags l e =
-    let both : ltb (get_or l 134 0) 2 && ltb (get_or l 135 0) 2 ≡ true = (and_both (eqb (length l) 136) (ltb (get_or l 134 0) 2 && ltb (get_or l 135 0) 2) e).1 in
+    let both : ltb (get_or l 134 0) 2 && ltb (get_or l 135 0) 2 ≡ true =
+    (and_both (eqb (length l) 136) (ltb (get_or l 134 0) 2 && ltb (get_or l 135 0) 2) e).1 in
     let two = and_both (ltb (get_or l 134 0) 2) (ltb (get_or l 135 0) 2) both in
     (ltb-true (get_or l 134 0) 2 two.0, ltb-true (get_or l 135 0) 2 two.1)
 

@@ -95,7 +95,8 @@ start_record careful capacity mode flash meta =
 
     go : (asked updating validating none : Bool) →
         ((pick asked (stays meta) (checked_of careful capacity flash
-        (pick updating (clears false meta) (pick validating (pick none (clears false meta) (clears true (trial_used meta))) (clears true meta))))).meta ≡ meta) ⊎
+        (pick updating (clears false meta) (pick validating (pick none (clears false meta) (clears true (trial_used meta))) (clears true meta))))).meta ≡
+        meta) ⊎
         ((pick asked (stays meta) (checked_of careful capacity flash
         (pick updating (clears false meta) (pick validating (pick none (clears false meta) (clears true (trial_used meta))) (clears true meta))))).meta ≡
         trial_used meta)

@@ -64,7 +64,8 @@ module _ (careful : Bool) (capacity : ℕ) (flash meta : List ℕ) where
   unfit : ruled_out careful capacity meta ≡ true → valid_of careful capacity flash meta ≡ false
   unfit = go (eqb (checksum_of meta) 0xFFFF) refl
     where
-      sized : (checksum_of meta ≡ 0xFFFF → ⊥) → (eqb (size_of meta) 0 ≡ true) ⊎ (ltb capacity (size_of meta) ≡ true) → valid_of careful capacity flash meta ≡ false
+      sized : (checksum_of meta ≡ 0xFFFF → ⊥) → (eqb (size_of meta) 0 ≡ true) ⊎ (ltb capacity (size_of meta) ≡ true) →
+          valid_of careful capacity flash meta ≡ false
       sized e (inl z) = none_unfit e (eqb-true _ _ z)
       sized e (inr h) = valid_long careful capacity flash meta e (ltb-true _ _ h)
 
