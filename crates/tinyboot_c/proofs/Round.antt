@@ -147,7 +147,9 @@ got_small f g e = last (or_either (leb g 9) (goes (verdict_of 52 true f) && ltb 
   where
     x : (leb g 0 || eqb (get_or f 0 0) 0xAA ≡ true) ×
         ((leb g 1 || eqb (get_or f 1 0) 0x55) && (leb g 9 || (goes (verdict_of 52 true f) && ltb g (12 + len_of f))) ≡ true)
-    x = and_both (leb g 0 || eqb (get_or f 0 0) 0xAA) ((leb g 1 || eqb (get_or f 1 0) 0x55) && (leb g 9 || (goes (verdict_of 52 true f) && ltb g (12 + len_of f)))) e
+    x =
+        and_both (leb g 0 || eqb (get_or f 0 0) 0xAA)
+        ((leb g 1 || eqb (get_or f 1 0) 0x55) && (leb g 9 || (goes (verdict_of 52 true f) && ltb g (12 + len_of f)))) e
 
     y : (leb g 1 || eqb (get_or f 1 0) 0x55 ≡ true) × (leb g 9 || (goes (verdict_of 52 true f) && ltb g (12 + len_of f)) ≡ true)
     y = and_both (leb g 1 || eqb (get_or f 1 0) 0x55) (leb g 9 || (goes (verdict_of 52 true f) && ltb g (12 + len_of f))) x.1

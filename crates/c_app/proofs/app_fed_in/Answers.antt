@@ -1,7 +1,4 @@
-use mathlib.Core.Path.{◌≡◌, sym, ◌∙◌}
-use mathlib.Core.Bool.{true}
-use Rattle.app_state.specs.Refusals.{app_set_up}
-use Rattle.c_app.specs.App.{holds_app}
+use mathlib.Core.Path.{sym, ◌∙◌}
 use Rattle.c_app.proofs.Holding.{holds_size}
 use Rattle.c_app.proofs.Cases.{unset, no_state, short, carried}
 use Rattle.c_app.proofs.app_fed_in.Goals as goal
@@ -19,16 +16,18 @@ returns-then-not-holds_app c =
     let a = c.args in
     let e = c.refuse-then-not-holds_app.ensures in
     rw (e.0, e.1, c.refusal_number-then-not-holds_app.ensures)
-    (no_state a.setup a.state.now a.bytes.now a.meta.now a.reply.now a.answer.now ((let known : (app_set_up 64 c.args.setup ≡ true) = sym c.app_set_up.ensures ∙ c.if-not-app_set_up.false in known))
+    (no_state a.setup a.state.now a.bytes.now a.meta.now a.reply.now a.answer.now
+    (sym c.app_set_up.ensures ∙ c.if-not-app_set_up.false)
     (sym c.holds_app.ensures ∙ c.if-not-holds_app.true))
 
 pub unanswered-requires : goal.unanswered-requires
-unanswered-requires c = holds_size c.args.state.now ((let known : (holds_app 52 c.args.state.now ≡ true) = sym c.holds_app.ensures ∙ c.if-not-holds_app.false in known))
+unanswered-requires c = holds_size c.args.state.now (sym c.holds_app.ensures ∙ c.if-not-holds_app.false)
 
 pub returns-then-answer-lt-ANSWER_SIZE : goal.returns-then-answer-lt-ANSWER_SIZE
 returns-then-answer-lt-ANSWER_SIZE c =
     let a = c.args in
-    short a.setup a.state.now a.bytes.now a.meta.now a.reply.now a.answer.now ((let known : (app_set_up 64 c.args.setup ≡ true) = sym c.app_set_up.ensures ∙ c.if-not-app_set_up.false in known)) ((let known : (holds_app 52 c.args.state.now ≡ true) = sym c.holds_app.ensures ∙ c.if-not-holds_app.false in known))
+    short a.setup a.state.now a.bytes.now a.meta.now a.reply.now a.answer.now
+    (sym c.app_set_up.ensures ∙ c.if-not-app_set_up.false) (sym c.holds_app.ensures ∙ c.if-not-holds_app.false)
     c.if-answer-lt-ANSWER_SIZE.true _ c.unanswered.ensures
 
 pub fed-requires : goal.fed-requires
@@ -41,5 +40,6 @@ fed-requires c =
 pub returns : goal.returns
 returns c =
     let a = c.args in
-    carried a.setup a.state.now a.bytes.now a.meta.now a.reply.now a.answer.now ((let known : (app_set_up 64 c.args.setup ≡ true) = sym c.app_set_up.ensures ∙ c.if-not-app_set_up.false in known)) ((let known : (holds_app 52 c.args.state.now ≡ true) = sym c.holds_app.ensures ∙ c.if-not-holds_app.false in known))
+    carried a.setup a.state.now a.bytes.now a.meta.now a.reply.now a.answer.now
+    (sym c.app_set_up.ensures ∙ c.if-not-app_set_up.false) (sym c.holds_app.ensures ∙ c.if-not-holds_app.false)
     c.if-answer-lt-ANSWER_SIZE.false _ c.fed.ensures

@@ -1,4 +1,3 @@
-use Prim.Native.Nat.{◌≤◌}
 use mathlib.Core.Path.{sym, ◌∙◌}
 use lib.ListN.{length}
 use lib.Seq.{length-take-le}
@@ -15,10 +14,10 @@ returns-then-not-holds_setup c =
     (sym c.holds_setup.ensures ∙ c.if-not-holds_setup.true))
 
 pub slice_bounds-fed-end : goal.slice_bounds-fed-end
-slice_bounds-fed-end c = (let known : (c.room_for-room.result ≤ length c.args.reply.now) = room_within _ (length c.args.reply.now) (length c.args.answer.now) c.room_for-room.ensures in known)
+slice_bounds-fed-end c = room_within _ (length c.args.reply.now) (length c.args.answer.now) c.room_for-room.ensures
 
 pub slice_bounds-fed-end-then-holds_state : goal.slice_bounds-fed-end-then-holds_state
-slice_bounds-fed-end-then-holds_state c = sym (length-take-le _ _ ((let known : (c.room_for-room.result ≤ length c.args.reply.now) = room_within _ (length c.args.reply.now) (length c.args.answer.now) c.room_for-room.ensures in known)))
+slice_bounds-fed-end-then-holds_state c = sym (length-take-le _ _ (room_within _ (length c.args.reply.now) (length c.args.answer.now) c.room_for-room.ensures))
 
 pub fed-requires : goal.fed-requires
 fed-requires c =
