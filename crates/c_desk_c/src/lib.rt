@@ -1,4 +1,5 @@
-// The desk's calls for programs in C or Rust, as an archive: each function of c_desk under its own name, with its own clause. Ours: the Rust has no such interface.
+// The desk's calls for programs in C or Rust, as an archive: each function of c_desk under its own name, with its own clause.
+// Ours: the Rust has no such interface.
 
 #![tactic(auto)]
 

@@ -153,7 +153,8 @@ module _ (cap status len : ℕ) (due : Bool) (wait : ℕ) (room : List ℕ) (r :
       let b : get_or f 1 0 ≡ 0x55 = same 1 (omega arith) ∙ ap (λ (l : List ℕ). get_or l 1 0) synced in
       let l : length (drop 10 f) ≡ length f - 10 = length-drop 10 f in
       let s =
-      literal cap status len due wait room r t u k z (get_or f 2 0) (get_or f 3 0) (get_or f 4 0) (get_or f 5 0) (get_or f 6 0) (get_or f 7 0) (get_or f 8 0) (get_or f 9 0)
+      literal cap status len due wait room r t u k z
+      (get_or f 2 0) (get_or f 3 0) (get_or f 4 0) (get_or f 5 0) (get_or f 6 0) (get_or f 7 0) (get_or f 8 0) (get_or f 9 0)
       (drop 10 f) (omega arith) (rw (same 2 (omega arith)) c) in
       let e : told f status len ≡ reply (head_meant g status len) (contents_of (cmd_of g) len (take len (drop 10 f))) =
       simp (same 2 (omega arith), same 4 (omega arith), same 5 (omega arith), same 6 (omega arith), same 7 (omega arith)) in

@@ -120,7 +120,8 @@ module _ (cap : ℕ) (device : Bool) (f m : List ℕ) (n : ℕ) (s : f ≡ 0xAA 
     pub stored : store cap b (wire n f) ≡ body ++ after
     unfolding store
     stored =
-        let x : List ℕ = get_or (wire n f) (10 + len_of (wire n f)) (get_or b (10 + cap) 0) ∷ get_or (wire n f) (11 + len_of (wire n f)) (get_or b (11 + cap) 0) ∷ [] in
+        let x : List ℕ =
+        get_or (wire n f) (10 + len_of (wire n f)) (get_or b (10 + cap) 0) ∷ get_or (wire n f) (11 + len_of (wire n f)) (get_or b (11 + cap) 0) ∷ [] in
         let a : List ℕ = take (10 + cap) b in
         let u : take (10 + len_of (wire n f)) (wire n f) ≡ body = ap (λ (j : ℕ). take (10 + j) (wire n f)) wire_size ∙ take_at body crc (10 + n) long in
         ap (λ (d : List ℕ). (d ++ drop (length d) a) ++ x) u ∙ append_assoc body (drop (length body) a) x

@@ -1,4 +1,5 @@
-// The device for programs in C or Rust, as an archive: each function of tinyboot_c under its own name, with its own clause. Ours: the Rust has no such interface.
+// The device for programs in C or Rust, as an archive: each function of tinyboot_c under its own name, with its own clause.
+// Ours: the Rust has no such interface.
 
 #![tactic(auto)]
 
