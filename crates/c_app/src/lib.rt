@@ -11,19 +11,8 @@ ghost use Rattle.app_client.specs.Feed.{app_fed_of};
 ghost use Rattle.c_layout.specs.Layout.{part, answer_size};
 ghost use Rattle.c_start.specs.Start.{after_new};
 ghost use Rattle.c_app.specs.App.{app_setup_size, app_state_size, holds_app, app_numbers_from, app_from, app_number_bytes, app_bytes};
-ghost use Rattle.c_app.specs.Calls.{
-  after_app,
-  app_roomless,
-  app_world_from,
-  app_called,
-  app_fed_in,
-  c_app_new,
-  c_set_baud,
-  hz_told,
-  c_baud,
-  place_told,
-  c_position,
-};
+ghost use Rattle.c_app.specs.Calls.{after_app, app_roomless, app_world_from, app_called, app_fed_in, c_app_new, c_set_baud};
+ghost use Rattle.c_app.specs.Calls.{hz_told, c_baud, place_told, c_position};
 
 use app_client::app_feed_in;
 use app_record::{PositionRead, RateRead, baud, confirm, position, set_baud, stored_number};

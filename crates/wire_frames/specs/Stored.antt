@@ -1,30 +1,7 @@
 -- What the bytes of a frame hold, and what feeding it a piece of the stream gives, from the reading of the whole stream. Of a payload capacity `cap` a
 -- frame has 12 + cap bytes: header and data at their offsets, the received CRC apart at the end (01, Port order: 64 frame bytes with fixed offsets).
-use Rattle.std.specs.Prelude.{
-  ℕ,
-  ◌+◌,
-  ◌-◌,
-  ◌≤◌,
-  ◌<◌,
-  ◌≡◌,
-  List,
-  [],
-  ◌∷◌,
-  ◌++◌,
-  Bool,
-  true,
-  false,
-  ◌&&◌,
-  ◌||◌,
-  length,
-  get_or,
-  take,
-  drop,
-  replicate,
-  ltb,
-  leb,
-  eqb,
-}
+use Rattle.std.specs.Prelude.{ℕ, ◌+◌, ◌-◌, ◌≤◌, ◌<◌, ◌≡◌, Bool, true, false, ◌&&◌, ◌||◌, ltb, leb, eqb}
+use Rattle.std.specs.Prelude.{List, [], ◌∷◌, ◌++◌, length, get_or, take, drop, replicate}
 use Rattle.laws.specs.Pick.{pick}
 use Rattle.laws.specs.Over.{over}
 use Rattle.wire_frames.specs.declared.frame.Kind.{Kind}
