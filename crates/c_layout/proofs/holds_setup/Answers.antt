@@ -1,0 +1,5 @@
+use mathlib.Core.Path.{refl}
+use Rattle.c_layout.proofs.holds_setup.Goals as goal
+
+pub returns : goal.returns
+returns c = refl
