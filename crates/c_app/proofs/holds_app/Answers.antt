@@ -1,3 +1,4 @@
+use mathlib.Core.Path.{refl}
 use Rattle.c_app.specs.App.{holds_app}
 use borrow.Author.Tests.{eq-eqb, ne_eqb, le-ltb}
 use Rattle.c_app.proofs.Holding.{holds_last}
@@ -9,7 +10,7 @@ returns-then-state-ne-APP_STATE_SIZE c = simp (ne_eqb _ _ c.if-state-ne-APP_STAT
 
 pub returns-then-state-ge2 : goal.returns-then-state-ge2
 unfolding holds_app
-returns-then-state-ge2 c = simp (eq-eqb _ _ c.if-state-ne-APP_STATE_SIZE.false, le-ltb _ _ c.if-state-ge2.true)
+returns-then-state-ge2 c = simp (eq-eqb _ _ c.if-state-ne-APP_STATE_SIZE.false, le-ltb _ _ c.if-state-ge2.true) refl
 
 pub returns : goal.returns
 returns c = holds_last _ c.if-state-ne-APP_STATE_SIZE.false c.if-state-ge2.false
