@@ -1,3 +1,4 @@
+use mathlib.Core.Path.{refl}
 use Rattle.device_state.specs.Refusals.{erase_size_fits}
 use borrow.Author.Tests.{le-leb, lt-leb}
 use Rattle.device_state.proofs.refusal.erase_fits.Goals as goal
@@ -12,4 +13,4 @@ returns-then-erase-gt32768 c = simp (le-leb _ _ c.if-erase-lt-PAGE_SIZE.false, l
 
 pub returns : goal.returns
 unfolding erase_size_fits
-returns c = simp (le-leb _ _ c.if-erase-lt-PAGE_SIZE.false, le-leb _ _ c.if-erase-gt32768.false)
+returns c = simp (le-leb _ _ c.if-erase-lt-PAGE_SIZE.false, le-leb _ _ c.if-erase-gt32768.false) refl

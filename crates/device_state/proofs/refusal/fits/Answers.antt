@@ -1,4 +1,4 @@
-use mathlib.Core.Path.{sym, ◌∙◌}
+use mathlib.Core.Path.{refl, sym, ◌∙◌}
 use Rattle.device_state.specs.Refusals.{fits}
 use borrow.Author.Tests.{le-leb, lt-leb}
 use Rattle.device_state.proofs.Limits.{erase_most}
@@ -21,7 +21,7 @@ returns-else-id_len-le16 c = simp (
   sym c.erase_fits.ensures ∙ c.if-erase_fits.true,
   sym c.capacity_fits.ensures ∙ c.if-capacity_fits.true,
   lt-leb _ _ c.if-id_len-le16.false,
-)
+) refl
 
 pub returns-else-capacity_fits : goal.returns-else-capacity_fits
 unfolding fits
