@@ -1,11 +1,11 @@
-use mathlib.Core.Path.{sym, ◌∙◌}
+use mathlib.Core.Path.{refl, sym, ◌∙◌}
 use borrow.Author.Tests.{eq-eqb, ne_eqb}
 use Rattle.device_early.specs.Early.{early_of}
 use Rattle.device_early.proofs.early.Goals as goal
 
 pub returns-then-not-good : goal.returns-then-not-good
 unfolding early_of
-returns-then-not-good c = simp (sym c.set_up-good.ensures ∙ c.if-not-good.true)
+returns-then-not-good c = simp (sym c.set_up-good.ensures ∙ c.if-not-good.true) refl
 
 pub returns-then-meta-ne-RECORD : goal.returns-then-meta-ne-RECORD
 unfolding early_of
