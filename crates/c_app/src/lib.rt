@@ -22,7 +22,7 @@ use device_replies::numbers_of;
 use device_state::PRESENT;
 use device_state::refusal::{Refusal, fits, refusal_number};
 use wire_frames::frame::{FRAME, FrameBytes};
-use wire_rates::{BaudFound, BaudRate};
+use wire_rates::BaudRate;
 
 // How many bytes a setup and a state take.
 pub const APP_SETUP_SIZE: usize = 33;
@@ -191,10 +191,11 @@ pub fn confirm_in(meta: &mut [u8]) -> u8
 }
 
 // A rate by its index, stored.
+#[tactic(auto, unfolding(crate::specs::Calls::c_set_baud))]
 pub fn set_baud_in(meta: &mut [u8], index: u8) -> u8
     ensures { leaves result meta.new ≡ c_set_baud meta.old index }
 {
-    let BaudFound::Rate(rate) = BaudRate::from_u8(index) else {
+    let Some(rate) = BaudRate::from_u8(index) else {
         return refusal_number(Refusal::BadSetup);
     };
     stored_number(set_baud(meta, rate))
@@ -210,10 +211,11 @@ fn hz_told(read: RateRead) -> u32
 }
 
 // The stored rate in bits per second; `default` is the index of the build's own.
+#[tactic(auto, unfolding(crate::specs::Calls::c_baud))]
 pub fn baud_in(meta: &[u8], default: u8) -> u32
     ensures { result ≡ c_baud meta.now default }
 {
-    let BaudFound::Rate(rate) = BaudRate::from_u8(default) else {
+    let Some(rate) = BaudRate::from_u8(default) else {
         return 10;
     };
     hz_told(baud(meta, rate))

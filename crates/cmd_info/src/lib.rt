@@ -33,11 +33,7 @@ fn lay(f: &mut [u8], new: &[u8])
     requires { (length f.old ≡ 64) × (length new.now ≡ 18) }
     ensures { f.new ≡ info_laid f.old new.now }
 {
-    let mut i: usize = 0;
-    while i < 18 {
-        f[10 + i] = new[i];
-        i += 1;
-    }
+    f[10..28].copy_from_slice(new);
 }
 
 // The reply to Info of a device of this payload capacity, mode and app version, in the frame's data area.

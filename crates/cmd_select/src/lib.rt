@@ -24,10 +24,7 @@ pub enum Selected {
 fn at_most_8(rem: u32) -> u32
     ensures { result + (rem - 8) ≡ rem }
 {
-    if rem < 8 {
-        return rem;
-    }
-    8
+    rem.min(8)
 }
 
 // The difference so far, and that of one byte of the id and of the prefix in its n low bits. The mask is u32: of a byte a shift by 8 is refused.
@@ -54,13 +51,11 @@ fn pass(uid: &[u8], f: &mut FrameBytes) -> bool
 {
     let mut rem = wide(f[11]);
     let mut diff: u32 = 0;
-    let mut i: usize = 0;
-    while i < uid.len() {
+    for (i, &u) in uid.iter().enumerate() {
         let n = at_most_8(rem);
-        diff = differ(diff, uid[i], f[12 + i], n);
-        f[10 + i] = uid[i];
+        diff = differ(diff, u, f[12 + i], n);
+        f[10 + i] = u;
         rem -= n;
-        i += 1;
     }
     diff | rem == 0
 }
@@ -101,10 +96,7 @@ fn select_uid(uid: &[u8], f: &mut FrameBytes) -> Selected
 fn at_most_16(n: usize) -> usize
     ensures { result + (n - 16) ≡ n }
 {
-    if n < MAX_UID_LEN {
-        return n;
-    }
-    MAX_UID_LEN
+    n.min(MAX_UID_LEN)
 }
 
 // Handles `Select`: the data area holds seed, bit count, prefix, as it stands, and the id is copied over it, match or not. The id is the first

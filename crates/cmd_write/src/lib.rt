@@ -38,14 +38,7 @@ pub struct Ran {
 fn refused(failed: bool, stored: Stored) -> bool
     ensures { result ≡ (failed || fails (stored_number stored)) }
 {
-    if failed {
-        return true;
-    }
-    match stored {
-        Stored::Done => false,
-        Stored::NotAligned => true,
-        Stored::OutOfBounds => true,
-    }
+    failed || stored != Stored::Done
 }
 
 // The first n bytes of the page are written, to where they belong before the next byte.
@@ -67,11 +60,7 @@ fn lay(page: &mut [u8], at: u32, d: &[u8], i: u32, m: u32)
     requires { (length page.old ≡ 64) × (at + m ≤ 64) × (i + m ≤ length d.now) × (length d.now ≤ 54) }
     ensures { page.new ≡ paste page.old at (drop i d.now) m }
 {
-    let mut j: u32 = 0;
-    while j < m {
-        page[(at + j) as usize] = d[(i + j) as usize];
-        j += 1;
-    }
+    page[at as usize..(at + m) as usize].copy_from_slice(&d[i as usize..(i + m) as usize]);
 }
 
 // m bytes more, from the i-th on, for which the page has room.
@@ -147,10 +136,7 @@ fn fits(capacity: usize, f: &[u8], next: u32) -> bool
 fn status_of(failed: bool) -> Status
     ensures { status_number result ≡ pick failed WriteError Ok }
 {
-    if failed {
-        return Status::WriteError;
-    }
-    Status::Ok
+    if failed { Status::WriteError } else { Status::Ok }
 }
 
 // How many of n bytes fit in what is left of the page.

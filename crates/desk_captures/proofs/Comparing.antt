@@ -13,6 +13,7 @@ use Rattle.laws.proofs.Bools.{and_both}
 use Rattle.desk_captures.specs.declared.Found.{Found}
 use Rattle.desk_captures.specs.declared.Compared.{Compared}
 use Rattle.desk_captures.specs.Captures.{Front, nothing, stands, fault, front_of, found_by, next_at, number_of, mark_of, after_by, after_at, part_at}
+use Rattle.std.specs.Cmp.Lexicographic.{pointwise}
 use Rattle.desk_captures.specs.Captures.{Reading, count_of, joined, alike, compared, compare_of, part_place, place_by, difference_place, difference_of}
 use Rattle.desk_captures.specs.Inner.{same_at, told_by}
 use Rattle.desk_captures.proofs.Readings.{reading_at, past, reading_is, part_front, Known, known, untrue, counted}
@@ -25,30 +26,6 @@ alike_same (a ∷ p) [] e = cc
 alike_same (a ∷ p) (b ∷ q) e =
     let w = and_both (eqb a b) (alike p q) e in
     ap₂ ◌∷◌ (eqb-true a b w.0) (alike_same p q w.1)
-
--- the bytes of two lists, one after the other
-pub alike-lengths : (p q : List ℕ) → (length p ≡ length q → ⊥) → false ≡ alike p q
-alike-lengths p q h = go (alike p q) refl
-  where
-    go : (t : Bool) → alike p q ≡ t → false ≡ t
-    go true e = absurd (h (ap length (alike_same p q e)))
-    go false e = refl
-
-module _ (p q : List ℕ) (i : ℕ) (w : alike (drop i p) (drop i q) ≡ alike p q) where
-  pub one_more : i < length p → i < length q → alike p q ≡ (eqb (get_or p i 0) (get_or q i 0) && alike (drop (i + 1) p) (drop (i + 1) q))
-  unfolding alike
-  one_more h k = sym w ∙ rw (drop-cons p i 0 h, drop-cons q i 0 k, add-one i) refl
-
-  pub alike_ended : length p ≤ i → length q ≤ i → true ≡ alike p q
-  unfolding alike
-  alike_ended h k = rw (drop_of_length-le p h, drop_of_length-le q k) at w
-
-module _ (t : Bool) (a b : ℕ) (u : Bool) (e : t ≡ (eqb a b && u)) where
-  pub ones_same : a ≡ b → u ≡ t
-  ones_same h = rw e (simp (eq-eqb a b h))
-
-  pub ones_apart : (a ≡ b → ⊥) → false ≡ t
-  ones_apart h = rw e (simp (ne_eqb a b h))
 
 -- no record has mark 0
 unmarked : (m : ℕ) → (m ≡ 0 → ⊥) → (t : Bool) → not (eqb m 0) && (eqb m 0 && t) ≡ true → ⊥
@@ -150,3 +127,11 @@ pub is_difference : (x y : List ℕ) (b : ℕ × ℕ) (at : ℕ) → at ≡ plac
     (p ≡ part_at y at) × (q ≡ part_place b y at) → (p ≡ difference_of x y) × (q ≡ part_place b y (difference_place x y))
 unfolding difference_of difference_place
 is_difference x y b at e w = (w.0 ∙ ap (part_at y) e, w.1 ∙ ap (part_place b y) e)
+
+-- what `==` says of two slices
+pub alike_is : (p q : List ℕ) → pointwise eqb p q ≡ alike p q
+unfolding alike
+alike_is [] [] = refl
+alike_is [] (b ∷ q) = refl
+alike_is (a ∷ p) [] = refl
+alike_is (a ∷ p) (b ∷ q) = ap (λ (t : Bool). eqb a b && t) (alike_is p q)

@@ -54,10 +54,7 @@ pub enum Compared {
 fn is_mark(b: u8) -> bool
     ensures { result ≡ is_mark b }
 {
-    if b == TO_MODULE {
-        return true;
-    }
-    b == FROM_MODULE
+    b == TO_MODULE || b == FROM_MODULE
 }
 
 // What stands at a place; past the end the end does.
@@ -176,17 +173,7 @@ pub fn part_at<'a>(capture: &'a [u8], at: usize) -> &'a [u8]
 pub fn same_bytes(p: &[u8], q: &[u8]) -> bool
     ensures { result ≡ alike p.now q.now }
 {
-    if p.len() != q.len() {
-        return false;
-    }
-    let mut i: usize = 0;
-    while i < p.len() {
-        if p[i] != q[i] {
-            return false;
-        }
-        i += 1;
-    }
-    true
+    p == q
 }
 
 // Whether the same record stands at this place of both.

@@ -57,11 +57,7 @@ fn put(f: &mut [u8], at: usize, src: &[u8])
     requires { at + length src.now ≤ length f.old }
     ensures { f.new ≡ paste f.old at src.now (length src.now) }
 {
-    let mut j: usize = 0;
-    while j < src.len() {
-        f[at + j] = src[j];
-        j += 1;
-    }
+    f[at..at + src.len()].copy_from_slice(src);
 }
 
 // Whether data of two parts, or an address, are more than a frame has place for.

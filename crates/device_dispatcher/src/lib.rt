@@ -31,13 +31,7 @@ pub struct Dispatched {
 pub fn is_good(kind: Kind) -> bool
     ensures { result ≡ good kind }
 {
-    match kind {
-        Kind::Unsupported => false,
-        Kind::PayloadOverflow => false,
-        Kind::Overheard => false,
-        Kind::CrcMismatch => false,
-        Kind::Good => true,
-    }
+    kind == Kind::Good
 }
 
 // The status that tells how a frame ended.

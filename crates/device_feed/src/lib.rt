@@ -52,15 +52,7 @@ pub fn refused(refusal: Refusal) -> Answer
 pub fn is_going(stop: Stop) -> bool
     ensures { result ≡ going (said_of stop) }
 {
-    match stop {
-        Stop::Refused => false,
-        Stop::Going => true,
-        Stop::Unsupported => false,
-        Stop::PayloadOverflow => false,
-        Stop::Overheard => false,
-        Stop::CrcMismatch => false,
-        Stop::Good => false,
-    }
+    stop == Stop::Going
 }
 
 // How a frame has ended.

@@ -14,7 +14,7 @@ use device_state::{Numbers, Setup};
 use store_flash::storage::Page;
 use wire_frames::frame::FrameBytes;
 use wire_info::InfoData;
-use wire_numbers::{Cmd, CmdFound, Status, le};
+use wire_numbers::{Cmd, Status, le};
 
 // What a command leaves beside what it is lent: the reply's status and length, whether a restart is due after it, and the device's numbers.
 #[derive(Clone, Copy)]
@@ -29,7 +29,7 @@ pub struct Handled {
 pub fn is_ok(status: Status) -> bool
     ensures { result ≡ eqb (status_number status) 1 }
 {
-    status.to_u8() == 1
+    status == Status::Ok
 }
 
 // A reply of no payload.
@@ -152,7 +152,7 @@ pub fn handle(
     ensures { handled_to result f.new page.new flash.new meta.new ≡
         handled_of 52 64 setup (world f.old page.old n flash.old meta.old) }
 {
-    let CmdFound::Known(cmd) = Cmd::from_u8(f[2]) else {
+    let Some(cmd) = Cmd::from_u8(f[2]) else {
         return bare(Status::Unsupported, n);
     };
     carry(setup, cmd, f, page, n, flash, meta)

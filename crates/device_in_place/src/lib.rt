@@ -30,11 +30,7 @@ fn fetch(s: &[u8], at: usize, a: &mut FrameBytes)
     requires { (at + 64 ≤ length s.now) × (length a.old ≡ 64) }
     ensures { a.new ≡ take 64 (drop at s.now) }
 {
-    let mut i: usize = 0;
-    while i < FRAME {
-        a[i] = s[at + i];
-        i += 1;
-    }
+    a.copy_from_slice(&s[at..at + FRAME]);
 }
 
 // These bytes from a place on.
@@ -42,11 +38,7 @@ fn lay(s: &mut [u8], at: usize, a: &[u8])
     requires { (at + 64 ≤ length s.old) × (length a.now ≡ 64) }
     ensures { s.new ≡ paste s.old at a.now 64 }
 {
-    let mut i: usize = 0;
-    while i < FRAME {
-        s[at + i] = a[i];
-        i += 1;
-    }
+    s[at..at + FRAME].copy_from_slice(a);
 }
 
 fn taken_out(s: &[u8], at: usize) -> FrameBytes
@@ -192,16 +184,7 @@ fn is_plain(f: &[u8], got: u32) -> bool
     requires { length f.now ≡ 64 }
     ensures { result ≡ plain_at f.now got }
 {
-    if got < 2 {
-        return false;
-    }
-    if got < 9 {
-        return true;
-    }
-    if got == 9 {
-        return false;
-    }
-    got < 10 + le::read16(f[8], f[9]) as u32
+    (2..9).contains(&got) || got > 9 && got < 10 + le::read16(f[8], f[9]) as u32
 }
 
 // Stores one byte more where that is all there is to do, and says whether it did. Most bytes of a stream are such ones: to take them one at a time costs

@@ -119,13 +119,11 @@ fn list_changes(old: Record, new: Record, list: &mut [u8]) -> u8
     ensures { (result ≡ changed old new) × (list.new ≡ sets list.old 0 (changes 0 old new)) }
 {
     let mut n: usize = 0;
-    let mut k: usize = 0;
-    while k < RECORD {
+    for k in 0..RECORD {
         if old[k] != new[k] {
             enter(list, n, k as u8, old[k], new[k]);
             n += 1;
         }
-        k += 1;
     }
     n as u8
 }

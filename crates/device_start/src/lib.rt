@@ -45,10 +45,7 @@ pub fn new_state(closed: bool) -> State
 fn hands_off(mode: RunMode) -> bool
     ensures { result ≡ (mode_number mode == 0) }
 {
-    match mode {
-        RunMode::HandOff => true,
-        RunMode::Service => false,
-    }
+    mode == RunMode::HandOff
 }
 
 fn refuses(setup: Setup, flash: usize, meta: usize) -> Refusal

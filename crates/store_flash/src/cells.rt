@@ -7,20 +7,14 @@ ghost use Rattle.std.proofs.lemmas.List.Edits.{sets};
 pub fn byte_at(s: &[u8], at: usize) -> u8
     ensures { result ≡ get_or s.now at 0xFF }
 {
-    if at < s.len() {
-        return s[at];
-    }
-    0xFF
+    s.get(at).copied().unwrap_or(0xFF)
 }
 
 // The first n bytes, or all of them where there are fewer.
 pub fn first<'a>(s: &'a [u8], n: usize) -> &'a [u8]
     ensures { result.now ≡ take n s.now }
 {
-    if n <= s.len() {
-        return &s[..n];
-    }
-    s
+    s.get(..n).unwrap_or(s)
 }
 
 // A store past the end changes nothing.
@@ -36,9 +30,7 @@ pub fn put(s: &mut [u8], at: usize, b: u8)
 pub fn lay(s: &mut [u8], new: &[u8])
     ensures { s.new ≡ sets s.old 0 new.now }
 {
-    let mut i = 0;
-    while i < new.len() {
-        put(s, i, new[i]);
-        i += 1;
+    for (i, &b) in new.iter().enumerate() {
+        put(s, i, b);
     }
 }

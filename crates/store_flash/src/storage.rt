@@ -14,7 +14,7 @@ pub const NONE_PENDING: u32 = 0xFFFF_FFFF;
 // A page under way.
 pub type Page = [u8; PAGE_SIZE];
 
-#[derive(Clone, Copy)]
+#[derive(Clone, Copy, Debug, PartialEq, Eq)]
 pub enum Stored {
     Done,
     NotAligned,
@@ -26,12 +26,8 @@ fn program(flash: &mut [u8], at: usize, bytes: &[u8])
     requires { (at + length bytes.now ≤ length flash.old) × (length bytes.now ≤ 64) }
     ensures { flash.new ≡ written flash.old at bytes.now }
 {
-    let n = bytes.len() as u32;
-    let mut j: u32 = 0;
-    while j < n {
-        let k = at + j as usize;
-        flash[k] = flash[k] & bytes[j as usize];
-        j += 1;
+    for j in 0..bytes.len() as u32 {
+        flash[at + j as usize] &= bytes[j as usize];
     }
 }
 
@@ -39,10 +35,8 @@ fn blank(flash: &mut [u8], from: usize, to: usize)
     requires { to ≤ length flash.old }
     ensures { flash.new ≡ erased flash.old from (to - from) }
 {
-    let mut k = from;
-    while k < to {
+    for k in from..to {
         flash[k] = 0xFF;
-        k += 1;
     }
 }
 

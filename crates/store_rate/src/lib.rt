@@ -9,17 +9,15 @@ ghost use Rattle.store_rate.specs.Rate.{rate_read};
 
 use store_record::boot_meta_store;
 use store_record::rewrite::RECORD;
-use wire_rates::{BaudFound, BaudRate};
+use wire_rates::BaudRate;
 
 // The rate of the record's baud; the build's own where its index has none, and where the bytes are no record.
+#[tactic(auto, unfolding(crate::specs::Rate::rate_read))]
 pub fn baud(meta: &[u8], default: BaudRate) -> BaudRate
     ensures { baud_index result ≡ rate_read meta.now (baud_index default) }
 {
     if meta.len() == RECORD {
-        let BaudFound::Rate(rate) = BaudRate::from_u8(boot_meta_store::baud(meta)) else {
-            return default;
-        };
-        return rate;
+        return BaudRate::from_u8(boot_meta_store::baud(meta)).unwrap_or(default);
     }
     default
 }

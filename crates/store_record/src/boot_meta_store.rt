@@ -35,12 +35,7 @@ pub fn boot_state(meta: &[u8]) -> BootState
 pub fn is_updating(meta: &[u8]) -> bool
     ensures { result ≡ updating meta.now }
 {
-    let state = boot_state(meta);
-    match state {
-        BootState::Idle => false,
-        BootState::Updating => true,
-        BootState::Validating => false,
-    }
+    boot_state(meta) == BootState::Updating
 }
 
 pub fn has_trials(meta: &[u8]) -> bool

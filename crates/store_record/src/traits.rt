@@ -7,7 +7,7 @@ use store_flash::cells::byte_at;
 use wire_numbers::le;
 
 // The stages of an update. Each byte is the one before with a 1 cleared: x & x >> 1.
-#[derive(Clone, Copy)]
+#[derive(Clone, Copy, Debug, PartialEq, Eq)]
 pub enum BootState {
     Idle,
     Updating,

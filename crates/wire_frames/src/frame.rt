@@ -40,7 +40,7 @@ impl Frame {
 }
 
 // How a frame can end.
-#[derive(Clone, Copy)]
+#[derive(Clone, Copy, Debug, PartialEq, Eq)]
 pub enum Kind {
     Unsupported,
     PayloadOverflow,
@@ -58,7 +58,7 @@ pub enum End {
 
 // How a call stopped: the frame handed in was no true beginning; all bytes were taken; or a frame has ended, and how.
 // Flat: a variant that holds another enum is stored as two bytes and read back as one number, which stalls.
-#[derive(Clone, Copy)]
+#[derive(Clone, Copy, Debug, PartialEq, Eq)]
 pub enum Stop {
     Refused,
     Going,
@@ -78,23 +78,18 @@ pub struct Passed {
 }
 
 // Whether a frame of this status is overheard.
+#[tactic(auto, unfolding(crate::specs::Reading::overhears))]
 pub fn heard(device: bool, status: u8) -> bool
     ensures { result ≡ overhears device status }
 {
-    if device {
-        return status != 0;
-    }
-    false
+    device && status != 0
 }
 
 // Whether no command or no status has this number.
 fn strange(cmd: u8, status: u8) -> bool
     ensures { result ≡ (ltb 5 cmd || ltb 7 status) }
 {
-    if 5 < cmd {
-        return true;
-    }
-    7 < status
+    5 < cmd || 7 < status
 }
 
 // What a whole header says, of its command, status and length: going on, or the frame's end.
@@ -117,10 +112,7 @@ pub fn verdict(cmd: u8, status: u8, len: u16, device: bool) -> End
 fn due(got: usize, place: usize, b: u8, want: u8) -> bool
     ensures { result ≡ (leb got place || eqb b want) }
 {
-    if got <= place {
-        return true;
-    }
-    b == want
+    got <= place || b == want
 }
 
 // Whether a header that has come passed, and the place is inside the frame.

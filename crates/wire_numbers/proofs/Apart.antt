@@ -1,12 +1,11 @@
 -- No two names have one number, so that a contract that gives the number allows one result.
 use Rattle.std.proofs.Common.{◌≡◌, ℕ, [], ◌∷◌, get_or, refl, ap}
-use Rattle.laws.specs.Lookup.{Lookup, none, some}
+use Rattle.std.specs.Prelude.{Option, Some, None}
+use Rattle.std.specs.Option.{option_map}
 use Rattle.laws.proofs.Inverse.{apart}
-use Rattle.wire_numbers.specs.Names.{cmd_number, cmd_found_of, status_number, status_found_of, mode_number}
+use Rattle.wire_numbers.specs.Names.{cmd_number, status_number, mode_number}
 use Rattle.wire_numbers.specs.declared.Cmd.{Cmd}
 use Rattle.wire_numbers.specs.declared.Cmd.TheVariants.{Info, Erase, Write, Verify, Reset, Select}
-use Rattle.wire_numbers.specs.declared.CmdFound.{CmdFound}
-use Rattle.wire_numbers.specs.declared.CmdFound.TheVariants.{Known as KnownCmd, Unknown as UnknownCmd}
 use Rattle.wire_numbers.specs.declared.Status.{Status}
 use Rattle.wire_numbers.specs.declared.Status.TheVariants.{
   Request,
@@ -18,8 +17,6 @@ use Rattle.wire_numbers.specs.declared.Status.TheVariants.{
   PayloadOverflow,
   Incompatible,
 }
-use Rattle.wire_numbers.specs.declared.StatusFound.{StatusFound}
-use Rattle.wire_numbers.specs.declared.StatusFound.TheVariants.{Known as KnownStatus, Unknown as UnknownStatus}
 use Rattle.wire_numbers.specs.declared.RunMode.{RunMode}
 use Rattle.wire_numbers.specs.declared.RunMode.TheVariants.{HandOff, Service}
 
@@ -37,16 +34,12 @@ cmd_back Select = refl
 pub cmd_apart : (a b : Cmd) → cmd_number a ≡ cmd_number b → a ≡ b
 cmd_apart = apart cmd_number cmd_from cmd_back
 
-abbrev cmd_found : Lookup → CmdFound
-cmd_found (some n) = KnownCmd (cmd_from n)
-cmd_found none = UnknownCmd
+cmd_found_back : (o : Option Cmd) → option_map cmd_from (option_map cmd_number o) ≡ o
+cmd_found_back (Some c) = ap Some (cmd_back c)
+cmd_found_back None = refl
 
-cmd_found_back : (f : CmdFound) → cmd_found (cmd_found_of f) ≡ f
-cmd_found_back (KnownCmd c) = ap KnownCmd (cmd_back c)
-cmd_found_back UnknownCmd = refl
-
-pub cmd_found_apart : (a b : CmdFound) → cmd_found_of a ≡ cmd_found_of b → a ≡ b
-cmd_found_apart = apart cmd_found_of cmd_found cmd_found_back
+pub cmd_found_apart : (a b : Option Cmd) → option_map cmd_number a ≡ option_map cmd_number b → a ≡ b
+cmd_found_apart = apart (option_map cmd_number) (option_map cmd_from) cmd_found_back
 
 abbrev status_from : ℕ → Status
 status_from n =
@@ -76,16 +69,12 @@ status_back Incompatible = refl
 pub status_apart : (a b : Status) → status_number a ≡ status_number b → a ≡ b
 status_apart = apart status_number status_from status_back
 
-abbrev status_found : Lookup → StatusFound
-status_found (some n) = KnownStatus (status_from n)
-status_found none = UnknownStatus
+status_found_back : (o : Option Status) → option_map status_from (option_map status_number o) ≡ o
+status_found_back (Some s) = ap Some (status_back s)
+status_found_back None = refl
 
-status_found_back : (f : StatusFound) → status_found (status_found_of f) ≡ f
-status_found_back (KnownStatus s) = ap KnownStatus (status_back s)
-status_found_back UnknownStatus = refl
-
-pub status_found_apart : (a b : StatusFound) → status_found_of a ≡ status_found_of b → a ≡ b
-status_found_apart = apart status_found_of status_found status_found_back
+pub status_found_apart : (a b : Option Status) → option_map status_number a ≡ option_map status_number b → a ≡ b
+status_found_apart = apart (option_map status_number) (option_map status_from) status_found_back
 
 abbrev pub mode_from : ℕ → RunMode
 mode_from n = get_or (HandOff ∷ Service ∷ []) n HandOff

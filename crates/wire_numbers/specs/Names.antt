@@ -1,11 +1,8 @@
 -- The numbers that commands, statuses and run modes have on the wire, and what looking a number up finds.
-use Rattle.std.specs.Prelude.{ℕ, nat_le}
+use Rattle.std.specs.Prelude.{ℕ, nat_le, Option, Some, None}
 use Rattle.laws.specs.Pick.{pick}
-use Rattle.laws.specs.Lookup.{Lookup, none, some}
 use Rattle.wire_numbers.specs.declared.Cmd.{Cmd}
 use Rattle.wire_numbers.specs.declared.Cmd.TheVariants.{Info, Erase, Write, Verify, Reset, Select}
-use Rattle.wire_numbers.specs.declared.CmdFound.{CmdFound}
-use Rattle.wire_numbers.specs.declared.CmdFound.TheVariants.{Known as KnownCmd, Unknown as UnknownCmd}
 use Rattle.wire_numbers.specs.declared.Status.{Status}
 use Rattle.wire_numbers.specs.declared.Status.TheVariants.{
   Request,
@@ -17,8 +14,6 @@ use Rattle.wire_numbers.specs.declared.Status.TheVariants.{
   PayloadOverflow,
   Incompatible,
 }
-use Rattle.wire_numbers.specs.declared.StatusFound.{StatusFound}
-use Rattle.wire_numbers.specs.declared.StatusFound.TheVariants.{Known as KnownStatus, Unknown as UnknownStatus}
 use Rattle.wire_numbers.specs.declared.RunMode.{RunMode}
 use Rattle.wire_numbers.specs.declared.RunMode.TheVariants.{HandOff, Service}
 
@@ -31,14 +26,9 @@ cmd_number Verify = 3
 cmd_number Reset = 4
 cmd_number Select = 5
 
--- 01, What form each place needs: an answer that is an enum, by its number
-abbrev pub cmd_found_of : CmdFound → Lookup
-cmd_found_of (KnownCmd c) = some (cmd_number c)
-cmd_found_of UnknownCmd = none
-
 -- 01, Frame bytes, step 1: a command above 5 is none
-abbrev pub cmd_lookup : ℕ → Lookup
-cmd_lookup b = pick (nat_le b 5) (some b) none
+abbrev pub cmd_lookup : ℕ → Option ℕ
+cmd_lookup b = pick (nat_le b 5) (Some b) None
 
 -- 01, Frame bytes: statuses 0 to 7
 abbrev pub status_number : Status → ℕ
@@ -51,14 +41,9 @@ status_number Unsupported = 5
 status_number PayloadOverflow = 6
 status_number Incompatible = 7
 
--- 01, What form each place needs: an answer that is an enum, by its number
-abbrev pub status_found_of : StatusFound → Lookup
-status_found_of (KnownStatus s) = some (status_number s)
-status_found_of UnknownStatus = none
-
 -- 01, Frame bytes, step 1: a status above 7 is none
-abbrev pub status_lookup : ℕ → Lookup
-status_lookup b = pick (nat_le b 7) (some b) none
+abbrev pub status_lookup : ℕ → Option ℕ
+status_lookup b = pick (nat_le b 7) (Some b) None
 
 -- 01, Commands, Reset: flags bit 0 asks for the bootloader, so it is the mode's number; Service is 1, hand-off 0
 abbrev pub mode_number : RunMode → ℕ

@@ -61,10 +61,8 @@ fn rest(crc: u16, bytes: &[u8]) -> u16
     ensures { result ≡ crc_bytes crc bytes.now }
 {
     let mut c = crc;
-    let mut i = 0;
-    while i < bytes.len() {
-        c = byte(c, bytes[i]);
-        i += 1;
+    for b in bytes {
+        c = byte(c, *b);
     }
     c
 }

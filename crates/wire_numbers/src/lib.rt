@@ -6,12 +6,11 @@ pub mod crc;
 pub mod le;
 
 ghost use Rattle.std.specs.Prelude.{◌≡◌, ◌*◌, ◌%◌, ◌^◌};
+ghost use Rattle.std.specs.Option.{option_map};
 ghost use Rattle.wire_numbers.specs.Names.{
   cmd_number,
-  cmd_found_of,
   cmd_lookup,
   status_number,
-  status_found_of,
   status_lookup,
   mode_number,
 };
@@ -45,7 +44,7 @@ pub struct ResetFlags {
 }
 
 // How a restart goes on.
-#[derive(Clone, Copy)]
+#[derive(Clone, Copy, Debug, PartialEq, Eq)]
 pub enum RunMode {
     HandOff,
     Service,
@@ -113,7 +112,7 @@ pub fn unpack_version(v: u16) -> Version
 }
 
 // Commands, host to device.
-#[derive(Clone, Copy)]
+#[derive(Clone, Copy, Debug, PartialEq, Eq)]
 pub enum Cmd {
     Info,
     Erase,
@@ -121,12 +120,6 @@ pub enum Cmd {
     Verify,
     Reset,
     Select,
-}
-
-#[derive(Clone, Copy)]
-pub enum CmdFound {
-    Known(Cmd),
-    Unknown,
 }
 
 impl Cmd {
@@ -143,23 +136,23 @@ impl Cmd {
         }
     }
 
-    pub fn from_u8(b: u8) -> CmdFound
-        ensures { cmd_found_of result ≡ cmd_lookup b }
+    pub fn from_u8(b: u8) -> Option<Cmd>
+        ensures { option_map cmd_number result ≡ cmd_lookup b }
     {
         match b {
-            0 => CmdFound::Known(Cmd::Info),
-            1 => CmdFound::Known(Cmd::Erase),
-            2 => CmdFound::Known(Cmd::Write),
-            3 => CmdFound::Known(Cmd::Verify),
-            4 => CmdFound::Known(Cmd::Reset),
-            5 => CmdFound::Known(Cmd::Select),
-            _ => CmdFound::Unknown,
+            0 => Some(Cmd::Info),
+            1 => Some(Cmd::Erase),
+            2 => Some(Cmd::Write),
+            3 => Some(Cmd::Verify),
+            4 => Some(Cmd::Reset),
+            5 => Some(Cmd::Select),
+            _ => None,
         }
     }
 }
 
 // How a reply went; a request has one too.
-#[derive(Clone, Copy)]
+#[derive(Clone, Copy, Debug, PartialEq, Eq)]
 pub enum Status {
     Request,
     Ok,
@@ -169,12 +162,6 @@ pub enum Status {
     Unsupported,
     PayloadOverflow,
     Incompatible,
-}
-
-#[derive(Clone, Copy)]
-pub enum StatusFound {
-    Known(Status),
-    Unknown,
 }
 
 impl Status {
@@ -193,19 +180,19 @@ impl Status {
         }
     }
 
-    pub fn from_u8(b: u8) -> StatusFound
-        ensures { status_found_of result ≡ status_lookup b }
+    pub fn from_u8(b: u8) -> Option<Status>
+        ensures { option_map status_number result ≡ status_lookup b }
     {
         match b {
-            0 => StatusFound::Known(Status::Request),
-            1 => StatusFound::Known(Status::Ok),
-            2 => StatusFound::Known(Status::WriteError),
-            3 => StatusFound::Known(Status::CrcMismatch),
-            4 => StatusFound::Known(Status::AddrOutOfBounds),
-            5 => StatusFound::Known(Status::Unsupported),
-            6 => StatusFound::Known(Status::PayloadOverflow),
-            7 => StatusFound::Known(Status::Incompatible),
-            _ => StatusFound::Unknown,
+            0 => Some(Status::Request),
+            1 => Some(Status::Ok),
+            2 => Some(Status::WriteError),
+            3 => Some(Status::CrcMismatch),
+            4 => Some(Status::AddrOutOfBounds),
+            5 => Some(Status::Unsupported),
+            6 => Some(Status::PayloadOverflow),
+            7 => Some(Status::Incompatible),
+            _ => None,
         }
     }
 }
@@ -234,10 +221,8 @@ pub fn compat_key(name: &[u8]) -> u32
     ensures { result ≡ key_of name.now }
 {
     let mut h: u32 = 0x811C_9DC5;
-    let mut i = 0;
-    while i < name.len() {
-        h = fnv_step(h, name[i]);
-        i += 1;
+    for &b in name {
+        h = fnv_step(h, b);
     }
     if h == COMPAT_UNSET { h - 1 } else { h }
 }

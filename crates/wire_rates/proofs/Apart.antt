@@ -1,9 +1,9 @@
 -- No two rates have one index, so that a contract that gives the index allows one result.
-use mathlib.Core.Path.{◌≡◌, refl, ap}
-use Rattle.laws.specs.Lookup.{Lookup, none, some}
+use Rattle.std.proofs.Common.{◌≡◌, ℕ, List, [], ◌∷◌, refl, ap}
+use Rattle.std.specs.Prelude.{Option, Some, None, get_or}
+use Rattle.std.specs.Option.{option_map}
 use Rattle.laws.proofs.Inverse.{apart}
-use Rattle.wire_rates.specs.Baud.{baud_index, baud_found_of}
-use Rattle.wire_rates.proofs.Rates.{entry}
+use Rattle.wire_rates.specs.Baud.{baud_index}
 use Rattle.wire_rates.specs.declared.BaudRate.{BaudRate}
 use Rattle.wire_rates.specs.declared.BaudRate.TheVariants.{
   B9600,
@@ -21,8 +21,10 @@ use Rattle.wire_rates.specs.declared.BaudRate.TheVariants.{
   B2500000,
   B3000000,
 }
-use Rattle.wire_rates.specs.declared.BaudFound.{BaudFound}
-use Rattle.wire_rates.specs.declared.BaudFound.TheVariants.{Rate, NoRate}
+
+-- the rate with an index
+abbrev entry : ℕ → BaudRate
+entry i = get_or (B9600 ∷ B19200 ∷ B38400 ∷ B57600 ∷ B115200 ∷ B230400 ∷ B460800 ∷ B500000 ∷ B921600 ∷ B1000000 ∷ B1500000 ∷ B2000000 ∷ B2500000 ∷ B3000000 ∷ []) i B9600
 
 rate_back : (r : BaudRate) → entry (baud_index r) ≡ r
 rate_back B9600 = refl
@@ -43,13 +45,12 @@ rate_back B3000000 = refl
 pub rate_apart : (a b : BaudRate) → baud_index a ≡ baud_index b → a ≡ b
 rate_apart = apart baud_index entry rate_back
 
-abbrev rate_found : Lookup → BaudFound
-rate_found (some n) = Rate (entry n)
-rate_found none = NoRate
+abbrev found_entry : Option ℕ → Option BaudRate
+found_entry = option_map entry
 
-rate_found_back : (f : BaudFound) → rate_found (baud_found_of f) ≡ f
-rate_found_back (Rate r) = ap Rate (rate_back r)
-rate_found_back NoRate = refl
+found_back : (o : Option BaudRate) → found_entry (option_map baud_index o) ≡ o
+found_back (Some r) = ap Some (rate_back r)
+found_back None = refl
 
-pub rate_found_apart : (a b : BaudFound) → baud_found_of a ≡ baud_found_of b → a ≡ b
-rate_found_apart = apart baud_found_of rate_found rate_found_back
+pub rate_found_apart : (a b : Option BaudRate) → option_map baud_index a ≡ option_map baud_index b → a ≡ b
+rate_found_apart = apart (option_map baud_index) found_entry found_back

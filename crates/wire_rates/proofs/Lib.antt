@@ -1,2 +1,1 @@
-pub mod Rates
 pub mod Apart

@@ -1,7 +1,7 @@
 -- The rates by their index.
-use Rattle.std.specs.Prelude.{ℕ, suc, List, [], ◌∷◌, ltb, eqb, get_or}
+use Rattle.std.specs.Prelude.{ℕ, List, [], ◌∷◌, ltb, eqb, get_or, Option, Some, None}
+use Rattle.std.specs.List.{position_from}
 use Rattle.laws.specs.Pick.{pick}
-use Rattle.laws.specs.Lookup.{Lookup, none, some}
 use Rattle.wire_rates.specs.declared.BaudRate.{BaudRate}
 use Rattle.wire_rates.specs.declared.BaudRate.TheVariants.{
   B9600,
@@ -19,8 +19,6 @@ use Rattle.wire_rates.specs.declared.BaudRate.TheVariants.{
   B2500000,
   B3000000,
 }
-use Rattle.wire_rates.specs.declared.BaudFound.{BaudFound}
-use Rattle.wire_rates.specs.declared.BaudFound.TheVariants.{Rate, NoRate}
 
 -- 01, Record, flash, start: the rates of `BaudRate::ALL`, as the Rust has them
 abbrev pub rates : List ℕ
@@ -62,20 +60,10 @@ baud_index B3000000 = 13
 abbrev pub hz_of : BaudRate → ℕ
 hz_of r = get_or rates (baud_index r) 0
 
--- 01, What form each place needs: an answer that is an enum, by its number
-abbrev pub baud_found_of : BaudFound → Lookup
-baud_found_of (Rate r) = some (baud_index r)
-baud_found_of NoRate = none
-
 -- 01, Record, flash, start: an index of 14 or more has no rate
-abbrev pub baud_lookup : ℕ → Lookup
-baud_lookup v = pick (ltb v 14) (some v) none
-
--- the first place of x in a list whose places are counted from i; what `hz_lookup` is made of
-unfoldable pub place_from : ℕ → ℕ → List ℕ → Lookup
-place_from x i [] = none
-place_from x i (y ∷ ys) = pick (eqb y x) (some i) (place_from x (suc i) ys)
+abbrev pub baud_lookup : ℕ → Option ℕ
+baud_lookup v = pick (ltb v 14) (Some v) None
 
 -- 01, Record, flash, start: `from_hz` of the rate type, the first index with this rate
-abbrev pub hz_lookup : ℕ → Lookup
-hz_lookup hz = place_from hz 0 rates
+abbrev pub hz_lookup : ℕ → Option ℕ
+hz_lookup hz = position_from (λ r. eqb r hz) 0 rates

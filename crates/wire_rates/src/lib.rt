@@ -3,10 +3,13 @@
 #![tactic(auto)]
 
 ghost use Rattle.std.specs.Prelude.{◌≡◌};
-ghost use Rattle.wire_rates.specs.Baud.{baud_index, baud_found_of, baud_lookup, hz_of, hz_lookup};
+ghost use Rattle.std.specs.Prelude.{◌==◌, find};
+ghost use Rattle.std.specs.Option.{option_map};
+ghost use Rattle.wire_rates.specs.declared.BaudRate.{BaudRate};
+ghost use Rattle.wire_rates.specs.Baud.{baud_index, baud_lookup, hz_of, hz_lookup};
 
 // UART rates. A rate stands for its index on the wire and in the record.
-#[derive(Clone, Copy)]
+#[derive(Clone, Copy, Debug, PartialEq, Eq)]
 pub enum BaudRate {
     B9600,
     B19200,
@@ -22,12 +25,6 @@ pub enum BaudRate {
     B2000000,
     B2500000,
     B3000000,
-}
-
-#[derive(Clone, Copy)]
-pub enum BaudFound {
-    Rate(BaudRate),
-    NoRate,
 }
 
 impl BaudRate {
@@ -93,28 +90,23 @@ impl BaudRate {
     }
 
     // The rate with an index.
-    pub fn from_u8(v: u8) -> BaudFound
-        ensures { baud_found_of result ≡ baud_lookup v }
+    pub fn from_u8(v: u8) -> Option<BaudRate>
+        ensures { option_map baud_index result ≡ baud_lookup v }
     {
-        if v < 14 {
-            BaudFound::Rate(Self::ALL[v as usize])
-        } else {
-            BaudFound::NoRate
-        }
+        Self::ALL.get(v as usize).copied()
     }
 
     // The rate of so many bits per second.
-    pub fn from_hz(hz: u32) -> BaudFound
-        ensures { baud_found_of result ≡ hz_lookup hz }
+    pub fn from_hz(hz: u32) -> Option<BaudRate>
+        ensures { option_map baud_index result ≡ hz_lookup hz }
     {
-        let mut i: usize = 0;
-        while i < 14 {
-            let rate = Self::ALL[i];
-            if rate.hz() == hz {
-                return BaudFound::Rate(rate);
-            }
-            i += 1;
-        }
-        BaudFound::NoRate
+        first_of(&Self::ALL, hz)
     }
+}
+
+// The first of these rates that has so many bits per second.
+fn first_of(rates: &[BaudRate], hz: u32) -> Option<BaudRate>
+    ensures { result ≡ find (λ (r : BaudRate). hz_of r == hz) rates.now }
+{
+    rates.iter().copied().find(|rate| rate.hz() == hz)
 }

@@ -39,23 +39,21 @@ struct Turn {
 }
 
 // The length in the header.
-fn len(f: &[u8]) -> u32
-    requires { length f.now ≡ 64 }
+fn len(f: &FrameBytes) -> u32
     ensures { (result ≡ len_of f.now) × (result < 65536) }
 {
     le::read16(f[8], f[9]) as u32
 }
 
 // What a whole header says: going on, or the frame's end.
-fn judge(f: &[u8], device: bool) -> End
-    requires { length f.now ≡ 64 }
+fn judge(f: &FrameBytes, device: bool) -> End
     ensures { result ≡ verdict_of 52 device f.now }
 {
     frame::verdict(f[2], f[3], le::read16(f[8], f[9]), device)
 }
 
 // The CRC of the first m bytes.
-fn body_crc(f: &[u8], m: usize) -> u16
+fn body_crc(f: &FrameBytes, m: usize) -> u16
     requires { m ≤ length f.now }
     ensures { result ≡ crc_of (take m f.now) }
 {
@@ -63,8 +61,8 @@ fn body_crc(f: &[u8], m: usize) -> u16
 }
 
 // What a whole frame of n data bytes says, its last byte being high.
-fn finish(f: &[u8], n: u32, device: bool, high: u8) -> Kind
-    requires { (length f.now ≡ 64) × (n ≤ 52) × (n ≡ len_of f.now) }
+fn finish(f: &FrameBytes, n: u32, device: bool, high: u8) -> Kind
+    requires { (n ≤ 52) × (n ≡ len_of f.now) }
     ensures { result ≡ checked device (take (10 + n) f.now ++ (get_or f.now 62 0 ∷ high ∷ [])) }
 {
     if frame::heard(device, f[3]) {
@@ -78,7 +76,7 @@ fn finish(f: &[u8], n: u32, device: bool, high: u8) -> Kind
 }
 
 // The header's last byte.
-fn head(f: &mut [u8], device: bool, b: u8) -> Step
+fn head(f: &mut FrameBytes, device: bool, b: u8) -> Step
     requires { Well 52 device f.old 9 }
     ensures { After 52 device f.old 9 (b ∷ []) f.new result.got result.end }
 {
@@ -92,20 +90,18 @@ fn head(f: &mut [u8], device: bool, b: u8) -> Step
 }
 
 // m bytes from at on, copied to got and on, one by one.
-fn copy(f: &mut [u8], got: usize, bytes: &[u8], at: usize, m: usize)
-    requires { (length f.old ≡ 64) × (got + m ≤ 64) × (at + m ≤ length bytes.now) }
+fn copy(f: &mut FrameBytes, got: usize, bytes: &[u8], at: usize, m: usize)
+    requires { (got + m ≤ 64) × (at + m ≤ length bytes.now) }
     ensures { f.new ≡ paste f.old got (drop at bytes.now) m }
 {
-    let mut j: usize = 0;
-    while j < m {
+    for j in 0..m {
         f[got + j] = bytes[at + j];
-        j += 1;
     }
 }
 
 // The same through a local array: of that the compiler knows that nothing else is in it, and both loops become one move.
-fn fill(f: &mut [u8], got: usize, bytes: &[u8], at: usize, m: usize)
-    requires { (length f.old ≡ 64) × (got + m ≤ 64) × (at + m ≤ length bytes.now) }
+fn fill(f: &mut FrameBytes, got: usize, bytes: &[u8], at: usize, m: usize)
+    requires { (got + m ≤ 64) × (at + m ≤ length bytes.now) }
     ensures { f.new ≡ paste f.old got (drop at bytes.now) m }
 {
     let mut a = [0u8; FRAME];
@@ -114,8 +110,7 @@ fn fill(f: &mut [u8], got: usize, bytes: &[u8], at: usize, m: usize)
 }
 
 // How many bytes are still to come that are only stored: the header's but for its last, or the data.
-fn wanted(f: &[u8], got: u32) -> u32
-    requires { length f.now ≡ 64 }
+fn wanted(f: &FrameBytes, got: u32) -> u32
     ensures { result ≡ wanted_of f.now got }
 {
     if got < 2 {
@@ -141,7 +136,7 @@ fn least(a: u32, b: usize) -> u32
 }
 
 // The CRC's two bytes.
-fn tail(f: &mut [u8], got: u32, device: bool, b: u8) -> Step
+fn tail(f: &mut FrameBytes, got: u32, device: bool, b: u8) -> Step
     requires { (10 ≤ got) × (10 + len_of f.old ≤ got) × Well 52 device f.old got }
     ensures { After 52 device f.old got (b ∷ []) f.new result.got result.end }
 {
@@ -164,7 +159,7 @@ fn tail(f: &mut [u8], got: u32, device: bool, b: u8) -> Step
 }
 
 // A byte that is looked at.
-fn push(f: &mut [u8], got: u32, device: bool, b: u8) -> Step
+fn push(f: &mut FrameBytes, got: u32, device: bool, b: u8) -> Step
     requires { (2 ≤ got → got < 10 → got ≡ 9) × (10 ≤ got → 10 + len_of f.old ≤ got) × Well 52 device f.old got }
     ensures { After 52 device f.old got (b ∷ []) f.new result.got result.end }
 {
@@ -182,7 +177,7 @@ fn push(f: &mut [u8], got: u32, device: bool, b: u8) -> Step
 }
 
 // One turn, from the byte at `at`: as many bytes as are wanted and at hand, or one byte that is looked at.
-fn take_turn(f: &mut [u8], got: u32, device: bool, bytes: &[u8], at: usize) -> Turn
+fn take_turn(f: &mut FrameBytes, got: u32, device: bool, bytes: &[u8], at: usize) -> Turn
     requires { (at < length bytes.now) × Well 52 device f.old got }
     ensures { Turned 52 device f.old got bytes.now at f.new result.got result.taken result.end }
 {
@@ -217,7 +212,7 @@ fn told(k: Kind) -> Stop
     }
 }
 
-fn pass(f: &mut [u8], start: usize, device: bool, bytes: &[u8]) -> Passed
+fn pass(f: &mut FrameBytes, start: usize, device: bool, bytes: &[u8]) -> Passed
     requires { Well 52 device f.old start }
     ensures { seen f.new result.got result.taken result.stop ≡
         out_of 52 f.old (length bytes.now) (read_frame 52 device (begun 52 f.old start ++ bytes.now)) }
@@ -250,10 +245,8 @@ fn pass(f: &mut [u8], start: usize, device: bool, bytes: &[u8]) -> Passed
 pub fn read_part(f: &mut [u8], got: usize, device: bool, bytes: &[u8]) -> Passed
     ensures { seen f.new result.got result.taken result.stop ≡ part_of 52 device f.old got bytes.now }
 {
-    if frame::begins(f, got, device) {
-        f[0] = Sync::VALID.0;
-        f[1] = Sync::VALID.1;
-        return pass(f, got, device, bytes);
+    if let Some(frame) = f.as_mut_array::<FRAME>() {
+        return read_in(frame, got, device, bytes);
     }
     Passed {
         got: got,
@@ -266,7 +259,16 @@ pub fn read_part(f: &mut [u8], got: usize, device: bool, bytes: &[u8]) -> Passed
 pub fn read_in(f: &mut FrameBytes, got: usize, device: bool, bytes: &[u8]) -> Passed
     ensures { seen f.new result.got result.taken result.stop ≡ read_of 52 device f.old got bytes.now }
 {
-    read_part(f, got, device, bytes)
+    if frame::is_beginning(f, got, device) {
+        f[0] = Sync::VALID.0;
+        f[1] = Sync::VALID.1;
+        return pass(f, got, device, bytes);
+    }
+    Passed {
+        got: got,
+        taken: 0,
+        stop: Stop::Refused,
+    }
 }
 
 fn read_frame(frame: Frame, device: bool, bytes: &[u8]) -> Taken

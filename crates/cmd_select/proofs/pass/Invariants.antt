@@ -11,6 +11,3 @@ invariant-loop-i l =
     (l.i ≤ length l.uid) × (l.rem ≡ bit_count_of l.initial.f - 8 * l.i) ×
     (eqb l.diff 0 ≡ agree (bit_count_of l.initial.f - l.rem) l.uid (prefix_of l.initial.f)) ×
     (l.f ≡ paste l.initial.f 10 l.uid l.i)
-
-abbrev pub decreases-loop-i : goal.decreases-loop-i
-decreases-loop-i l = length l.uid - l.i

@@ -16,5 +16,5 @@ returns-in_default c = let a = c.args in
 pub returns : goal.returns
 unfolding handled_of
 returns c =
-    rw (found (cmd_number c.in-Known.cmd) (get_or c.args.f.now 2 0) (rw c.in-Known.is at c.from_u8.ensures)) at
+    rw (found (cmd_number c.in-Some.cmd) (get_or c.args.f.now 2 0) (rw c.in-Some.is at c.from_u8.ensures)) at
     c.carry.ensures

@@ -9,14 +9,14 @@ use borrow.Author.Rules.{rules}
 use Rattle.wire_reader.proofs.copy.Goals as goal
 
 pub loop-j-init : goal.loop-j-init
-loop-j-init c = (omega arith, paste-zero c.args.f.now c.args.got (drop c.args.at c.args.bytes.now), c.requires.0)
+loop-j-init c = (omega arith, paste-zero c.args.f.now c.args.got (drop c.args.at c.args.bytes.now), search rules)
 
 pub loop-j-preserved : goal.loop-j-preserved
 loop-j-preserved c =
     let a = c.args in
     let v = c.loop-j in
     let d : List ℕ = drop a.at a.bytes.now in
-    let l : length a.f.now ≡ 64 = c.requires.0 in
+    let l : length a.f.now ≡ 64 = search rules in
     let n : length d ≡ length a.bytes.now - a.at = length-drop a.at a.bytes.now in
     let e : get_or d v.j 0 ≡ get_or a.bytes.now (a.at + v.j) 0 = get_or-drop a.at a.bytes.now v.j 0 in
     let s = paste-suc a.f.now a.got d v.j 0 (omega arith) (omega arith) in

@@ -6,6 +6,3 @@ use Rattle.wire_reader.proofs.copy.Given as goal
 
 abbrev pub invariant-loop-j : goal.invariant-loop-j
 invariant-loop-j l = (l.j ≤ l.m) × (l.f ≡ paste l.initial.f l.got (drop l.at l.bytes) l.j) × (length l.f ≡ 64)
-
-abbrev pub decreases-loop-j : goal.decreases-loop-j
-decreases-loop-j l = l.m - l.j

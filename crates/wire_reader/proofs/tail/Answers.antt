@@ -13,7 +13,7 @@ pub finish-kind-requires : goal.finish-kind-requires
 finish-kind-requires c =
     let a = c.args in
     let p = c.requires in
-    (p.2.whole, omega (arith, c.len-n.ensures.0, going_size 52 a.device a.f.now (p.2.going p.0)), c.len-n.ensures.0)
+    (omega (arith, c.len-n.ensures.0, going_size 52 a.device a.f.now (p.2.going p.0)), c.len-n.ensures.0)
 
 pub returns-else-got-n : goal.returns-else-got-n
 returns-else-got-n c =

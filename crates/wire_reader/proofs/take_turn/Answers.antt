@@ -21,8 +21,9 @@ fill-requires c =
     let a = c.args in
     let p = c.requires in
     let e = c.wanted-want.ensures in
-    wanted_fits 52 a.device a.f.now a.got p.1 a.bytes.now a.at c.least-m.result p.0
-    (λ z. c.if-want-eq0.false (e ∙ z)) (rw e at c.least-m.ensures)
+    let w = wanted_fits 52 a.device a.f.now a.got p.1 a.bytes.now a.at c.least-m.result p.0
+    (λ z. c.if-want-eq0.false (e ∙ z)) (rw e at c.least-m.ensures) in
+    (w.1, w.2)
 
 pub returns : goal.returns
 returns c =

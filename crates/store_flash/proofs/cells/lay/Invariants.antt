@@ -7,6 +7,3 @@ use Rattle.store_flash.proofs.cells.lay.Given as goal
 
 abbrev pub invariant-loop-i : goal.invariant-loop-i
 invariant-loop-i l = (l.i ≤ length l.new) × (length l.s ≡ length l.initial.s) × (sets l.s l.i (drop l.i l.new) ≡ sets l.initial.s 0 l.new)
-
-abbrev pub decreases-loop-i : goal.decreases-loop-i
-decreases-loop-i l = length l.new - l.i

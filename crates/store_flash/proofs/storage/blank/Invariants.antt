@@ -7,6 +7,3 @@ use Rattle.store_flash.proofs.storage.blank.Given as goal
 
 abbrev pub invariant-loop-k : goal.invariant-loop-k
 invariant-loop-k l = (length l.flash ≡ length l.initial.flash) × (erased l.flash l.k (l.to - l.k) ≡ erased l.initial.flash l.from (l.to - l.from))
-
-abbrev pub decreases-loop-k : goal.decreases-loop-k
-decreases-loop-k l = l.to - l.k
