@@ -5,7 +5,7 @@ use app_record::{RateRead, baud, confirm, set_baud, stored_number};
 use std::io;
 use std::io::Write;
 use store_flash::cells::first;
-use wire_rates::{BaudFound, BaudRate};
+use wire_rates::BaudRate;
 
 // What a call says, behind its name.
 fn tell(out: &mut impl Write, name: &[u8], number: u64) -> io::Result<()> {
@@ -16,10 +16,7 @@ fn tell(out: &mut impl Write, name: &[u8], number: u64) -> io::Result<()> {
 
 // The rate of an index, which a line within its limits has.
 fn rate_of(index: u8) -> BaudRate {
-    match BaudRate::from_u8(index) {
-        BaudFound::Rate(rate) => rate,
-        BaudFound::NoRate => BaudRate::B9600,
-    }
+    BaudRate::from_u8(index).unwrap_or(BaudRate::B9600)
 }
 
 fn confirmed(bench: &mut Bench, out: &mut impl Write) -> io::Result<()> {

@@ -5,14 +5,11 @@ use desk_requests::{Request, Written, write_request};
 use std::io;
 use std::io::Write;
 use store_flash::cells::{byte_at, first};
-use wire_numbers::{Cmd, CmdFound};
+use wire_numbers::Cmd;
 
 // The command of a number, which a line within its limits has.
 fn cmd_of(number: u8) -> Cmd {
-    match Cmd::from_u8(number) {
-        CmdFound::Known(cmd) => cmd,
-        CmdFound::Unknown => Cmd::Info,
-    }
+    Cmd::from_u8(number).unwrap_or(Cmd::Info)
 }
 
 // The request, before its data.

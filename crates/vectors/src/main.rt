@@ -6,7 +6,7 @@ use std::io;
 use std::io::{BufWriter, Write};
 use wire_numbers::crc::crc16;
 use wire_numbers::{compat_key, pack_version, unpack_version};
-use wire_rates::{BaudFound, BaudRate};
+use wire_rates::BaudRate;
 
 // How many vectors ran, and how many of them differ.
 #[derive(Drop)]
@@ -157,18 +157,12 @@ fn version(out: &mut impl Write, t: Tally) -> io::Result<Tally> {
     t.decimal(out, "patch of ", 2179, v.patch as u64, 3)
 }
 
-fn index_of(found: BaudFound) -> u64 {
-    let BaudFound::Rate(rate) = found else {
-        return NONE;
-    };
-    rate.to_u8() as u64
+fn index_of(found: Option<BaudRate>) -> u64 {
+    found.map_or(NONE, |rate| rate.to_u8() as u64)
 }
 
-fn hz_of(found: BaudFound) -> u64 {
-    let BaudFound::Rate(rate) = found else {
-        return 0;
-    };
-    rate.hz() as u64
+fn hz_of(found: Option<BaudRate>) -> u64 {
+    found.map_or(0, |rate| rate.hz() as u64)
 }
 
 // An index to its rate, and the rate back to the index.
