@@ -95,6 +95,12 @@ def copied(ir):
     return ir + MEMCPY + "\n" if found and "declare void @llvm.memcpy" not in ir else ir
 
 
+def padded(ir):
+    """A byte beside a pointer, as an Option of a reference goes by value: on a small target too the pointer stands at byte 8, where the code stores it."""
+    ir = re.sub(r"((?:extract|insert)value \{ i8, ptr \} [^\n]*), 1$", r"\1, 2", ir, flags=re.M)
+    return ir.replace("{ i8, ptr }", "{ i8, [7 x i8], ptr }")
+
+
 def edited(ir, bits, one):
     """The module for a target whose pointers have so many bits; for one device, or for any setup."""
     lines, calls = [], []
@@ -105,7 +111,7 @@ def edited(ir, bits, one):
     ir = "\n".join(lines) + "\n" + "".join(calls)
     if bits < 64:
         ir = copied(ir)
-        ir = bytewise(re.sub(r"\balign 8\b", "align 4", ir.replace(" ptrtoaddr ", " ptrtoint ")))
+        ir = bytewise(re.sub(r"\balign 8\b", "align 4", padded(ir).replace(" ptrtoaddr ", " ptrtoint ")))
     if one:
         ir = re.sub(rf'^(define internal [^\n]* i1 @"{re.escape(SHORTCUT)}"\([^\n]*\{{\n).*?^}}$', r"\1  ret i1 false\n}", ir, flags=re.M | re.S)
     for name in ONE_APART if one else APART:
