@@ -6,7 +6,6 @@
 ghost use Rattle.std.specs.Prelude.{◌≡◌, length, take};
 ghost use Rattle.wire_numbers.specs.Names.{status_number};
 ghost use Rattle.wire_frames.specs.Reading.{kind_status};
-ghost use Rattle.device_state.specs.State.{world, selected_set, closed_set};
 ghost use Rattle.device_handler.specs.Inner.{handled_to};
 ghost use Rattle.device_dispatcher.specs.Dispatch.{good, done_of, dispatch_of};
 ghost use Rattle.device_dispatcher.specs.Inner.{ended_to};
@@ -14,18 +13,10 @@ ghost use Rattle.device_dispatcher.specs.Inner.{ended_to};
 use cmd_select::MAX_UID_LEN;
 use device_handler::Handled;
 use device_replies::Answer;
-use device_state::{Numbers, Setup};
+use device_state::{Setup, State};
 use device_turns::Turn;
-use store_flash::storage::Page;
-use wire_frames::frame::{FrameBytes, Kind};
+use wire_frames::frame::Kind;
 use wire_numbers::Status;
-
-// What the end of a frame leaves beside what it is lent.
-#[derive(Clone, Copy)]
-pub struct Dispatched {
-    pub answer: Answer,
-    pub numbers: Numbers,
-}
 
 // A good request.
 pub fn is_good(kind: Kind) -> bool
@@ -57,81 +48,55 @@ pub fn id_len(id: [u8; 16], len: usize) -> u16
     16
 }
 
-fn selecting(n: Numbers, on: bool) -> Numbers
-    ensures { result ≡ selected_set on n }
-{
-    let mut m = n;
-    m.selected = on;
-    m
-}
-
-fn closing(n: Numbers, closed: bool) -> Numbers
-    ensures { result ≡ closed_set closed n }
-{
-    let mut m = n;
-    m.closed = closed;
-    m
-}
-
 // A Select's reply carries the id; another good request is carried out; an error is replied to.
+#[tactic(auto, unfolding(crate::specs::Dispatch::obeyed_of))]
 fn done(
     chosen: bool,
     setup: Setup,
     kind: Kind,
-    f: &mut FrameBytes,
-    page: &mut Page,
-    n: Numbers,
+    state: &mut State,
     flash: &mut [u8],
     meta: &mut [u8],
 ) -> Handled
-    ensures { handled_to result f.new page.new flash.new meta.new ≡
-        done_of 52 64 setup kind chosen (world f.old page.old n flash.old meta.old) }
+    ensures { handled_to result state.new flash.new meta.new ≡
+        done_of 52 64 setup kind chosen (record { state = state.old; flash = flash.old; meta = meta.old }) }
 {
     if chosen {
-        let id = setup.id;
-        return device_handler::loaded(id_len(id, setup.id_len), n);
+        return device_handler::loaded(id_len(setup.id, setup.id_len));
     }
     if is_good(kind) {
-        return device_handler::handle(setup, f, page, n, flash, meta);
+        return device_handler::handle(setup, state, flash, meta);
     }
-    device_handler::bare(status_of(kind), n)
+    device_handler::bare(status_of(kind))
 }
 
 // A frame that has ended in this way.
 pub fn dispatch(
     setup: Setup,
     kind: Kind,
-    f: &mut FrameBytes,
-    page: &mut Page,
-    n: Numbers,
+    state: &mut State,
     flash: &mut [u8],
     meta: &mut [u8],
     room: &mut [u8],
-) -> Dispatched
-    ensures { ended_to result f.new page.new flash.new meta.new room.new ≡
-        dispatch_of 52 64 setup kind (world f.old page.old n flash.old meta.old) room.old }
+) -> Answer
+    ensures { ended_to result state.new flash.new meta.new room.new ≡
+        dispatch_of 52 64 setup kind (record { state = state.old; flash = flash.old; meta = meta.old }) room.old }
 {
-    let id = setup.id;
-    let t = device_turns::decide(id, setup.id_len, kind, f, n.selected);
-    match t {
-        Turn::Silent { why, selected } => Dispatched {
-            answer: Answer::Silent { why: why },
-            numbers: selecting(n, selected),
-        },
+    let on = state.numbers.selected;
+    match device_turns::decide(setup.id, setup.id_len, kind, &mut state.frame, on) {
+        Turn::Silent { why, selected } => {
+            state.numbers.selected = selected;
+            Answer::Silent { why: why }
+        }
         Turn::Reply {
             chosen,
             selected,
             wait,
         } => {
-            let m = selecting(n, selected);
-            let h = done(chosen, setup, kind, f, page, m, flash, meta);
-            let said = h.status;
-            let a = device_replies::reply(said, h.len, h.restart, wait, f, room);
-            let left = h.numbers;
-            Dispatched {
-                answer: a,
-                numbers: closing(left, h.restart),
-            }
+            state.numbers.selected = selected;
+            let h = done(chosen, setup, kind, state, flash, meta);
+            state.numbers.closed = h.restart;
+            device_replies::reply(h.status, h.len, h.restart, wait, &mut state.frame, room)
         }
     }
 }

@@ -2,19 +2,20 @@
 use Rattle.std.specs.Prelude.{Bool, true, false, List, ℕ}
 use Rattle.wire_frames.specs.declared.frame.Kind.{Kind}
 use Rattle.wire_frames.specs.Stored.{Said, quiet, ended, no_beginning}
-use Rattle.device_state.specs.State.{world}
+use Rattle.device_state.specs.declared.State.{State}
 use Rattle.device_replies.specs.Answers.{told_of}
 use Rattle.device_feed.specs.declared.Fed.{Fed}
 use Rattle.device_feed.specs.declared.Passed.{Passed}
 use Rattle.device_feed.specs.Feed.{Called}
 
--- what a call answered, with what was lent as it stands afterwards: of the call by value, and of the one that the state's arrays are lent to
+-- what a call answered, with what was lent as it stands afterwards: of the call by value, and of the one that the state is lent to
 abbrev pub fed_to : Fed → List ℕ → List ℕ → List ℕ → Called
 fed_to r flash meta room =
     record { told = told_of r.answer; taken = r.taken; left = record { state = r.state; flash = flash; meta = meta }; room = room }
 
-abbrev pub passed_to : Passed → List ℕ → List ℕ → List ℕ → List ℕ → List ℕ → Called
-passed_to r f p flash meta room = record { told = told_of r.answer; taken = r.taken; left = world f p r.numbers flash meta; room = room }
+abbrev pub passed_to : Passed → State → List ℕ → List ℕ → List ℕ → Called
+passed_to r s flash meta room =
+    record { told = told_of r.answer; taken = r.taken; left = record { state = s; flash = flash; meta = meta }; room = room }
 
 -- whether no frame has ended; and how one has, where one has
 abbrev pub going : Said → Bool

@@ -6,16 +6,14 @@ ghost use Rattle.std.specs.Prelude.{◌≡◌, true, false};
 ghost use Rattle.wire_frames.specs.Reading.{kind_status};
 ghost use Rattle.wire_frames.specs.Stored.{well_of, said_of};
 ghost use Rattle.device_state.specs.Refusals.{refusal_number};
-ghost use Rattle.device_state.specs.State.{world, got_set};
 ghost use Rattle.device_replies.specs.Answers.{mute, told_of};
 ghost use Rattle.device_feed.specs.Feed.{taken_of, fed_of};
 ghost use Rattle.device_feed.specs.Inner.{passed_to, fed_to, going, kind_of};
 
 use device_replies::Answer;
 use device_state::refusal::Refusal;
-use device_state::{Numbers, Setup, State, refusal};
-use store_flash::storage::Page;
-use wire_frames::frame::{FrameBytes, Kind, Stop};
+use device_state::{Setup, State, refusal};
+use wire_frames::frame::{Kind, Stop};
 
 // The state afterwards, how many bytes of the piece were taken, and what the call says.
 #[derive(Clone, Copy)]
@@ -25,10 +23,9 @@ pub struct Fed {
     pub answer: Answer,
 }
 
-// The same where the state's arrays are lent: what they do not hold.
+// The same where the state is lent: what it does not hold.
 #[derive(Clone, Copy)]
 pub struct Passed {
-    pub numbers: Numbers,
     pub taken: usize,
     pub answer: Answer,
 }
@@ -70,70 +67,59 @@ pub fn kind_of(stop: Stop) -> Kind
     }
 }
 
-// The numbers once so many bytes of a frame have begun.
-pub fn begun(n: Numbers, got: usize) -> Numbers
-    ensures { result ≡ got_set got n }
-{
-    let mut m = n;
-    m.got = got;
-    m
-}
-
 // A call that is not refused.
 fn pass(
     setup: Setup,
-    n: Numbers,
-    f: &mut FrameBytes,
-    page: &mut Page,
+    state: &mut State,
     bytes: &[u8],
     flash: &mut [u8],
     meta: &mut [u8],
     reply: &mut [u8],
 ) -> Passed
-    requires { well_of 52 true f.old n.got ≡ true }
-    ensures { passed_to result f.new page.new flash.new meta.new reply.new ≡
-        taken_of 52 64 setup (world f.old page.old n flash.old meta.old) bytes.now reply.old }
+    requires { well_of 52 true state.old.frame state.old.numbers.got ≡ true }
+    ensures { passed_to result state.new flash.new meta.new reply.new ≡
+        taken_of 52 64 setup (record { state = state.old; flash = flash.old; meta = meta.old }) bytes.now reply.old }
 {
-    let p = wire_reader::read_in(f, n.got, true, bytes);
-    let stop = p.stop;
-    let m = begun(n, p.got);
-    if is_going(stop) {
+    let got = state.numbers.got;
+    let p = wire_reader::read_in(&mut state.frame, got, true, bytes);
+    state.numbers.got = p.got;
+    if is_going(p.stop) {
         return Passed {
-            numbers: m,
             taken: p.taken,
             answer: Answer::Quiet,
         };
     }
-    let d = device_dispatcher::dispatch(setup, kind_of(stop), f, page, m, flash, meta, reply);
-    let left = d.numbers;
-    let answer = d.answer;
     Passed {
-        numbers: left,
         taken: p.taken,
-        answer: answer,
+        answer: device_dispatcher::dispatch(setup, kind_of(p.stop), state, flash, meta, reply),
     }
 }
 
-// `feed` with the state's two arrays lent and its numbers beside them: for who keeps a state in place and feeds it byte by byte.
+// `feed` on a state that is lent: for who keeps it in place and feeds it byte by byte.
 pub fn feed_in(
     setup: Setup,
-    n: Numbers,
-    f: &mut FrameBytes,
-    page: &mut Page,
+    state: &mut State,
     bytes: &[u8],
     flash: &mut [u8],
     meta: &mut [u8],
     reply: &mut [u8],
 ) -> Passed
-    ensures { passed_to result f.new page.new flash.new meta.new reply.new ≡
-        fed_of 52 64 setup (world f.old page.old n flash.old meta.old) bytes.now reply.old }
+    ensures { passed_to result state.new flash.new meta.new reply.new ≡
+        fed_of 52 64 setup (record { state = state.old; flash = flash.old; meta = meta.old }) bytes.now reply.old }
 {
-    let refusal = refusal::refuses(setup, f, n, flash.len(), meta.len(), reply.len());
+    let n = state.numbers;
+    let refusal = refusal::refuses(
+        setup,
+        &state.frame,
+        n,
+        flash.len(),
+        meta.len(),
+        reply.len(),
+    );
     if refusal.is_none() {
-        return pass(setup, n, f, page, bytes, flash, meta, reply);
+        return pass(setup, state, bytes, flash, meta, reply);
     }
     Passed {
-        numbers: n,
         taken: 0,
         answer: refused(refusal),
     }
@@ -153,19 +139,11 @@ pub fn feed(
     ensures { fed_to result flash.new meta.new reply.new ≡
         fed_of 52 64 setup (record { state = state; flash = flash.old; meta = meta.old }) bytes.now reply.old }
 {
-    let mut f = state.frame;
-    let mut page = state.page;
-    let n = state.numbers;
-    let r = feed_in(setup, n, &mut f, &mut page, bytes, flash, meta, reply);
-    let after = r.numbers;
-    let answer = r.answer;
+    let mut after = state;
+    let r = feed_in(setup, &mut after, bytes, flash, meta, reply);
     Fed {
-        state: State {
-            frame: f,
-            page: page,
-            numbers: after,
-        },
+        state: after,
         taken: r.taken,
-        answer: answer,
+        answer: r.answer,
     }
 }

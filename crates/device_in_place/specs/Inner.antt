@@ -8,9 +8,9 @@ use Rattle.device_feed.specs.declared.Passed.{Passed}
 use Rattle.device_in_place.specs.On.{frame_in, CalledOn}
 
 -- what a call answered, with what was lent as it stands afterwards
-abbrev pub called_on : Passed → List ℕ → List ℕ → List ℕ → List ℕ → CalledOn
-called_on r s flash meta room =
-    record { told = told_of r.answer; taken = r.taken; numbers = r.numbers; bytes = s; flash = flash; meta = meta; room = room }
+abbrev pub called_on : Passed → Numbers → List ℕ → List ℕ → List ℕ → List ℕ → CalledOn
+called_on r n s flash meta room =
+    record { told = told_of r.answer; taken = r.taken; numbers = n; bytes = s; flash = flash; meta = meta; room = room }
 
 -- the refusal of such a call, 0 where there is none
 unfoldable pub refusal_on : ℕ → ℕ → Setup → List ℕ → Numbers → ℕ → ℕ → ℕ → ℕ

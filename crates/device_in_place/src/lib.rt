@@ -13,10 +13,10 @@ ghost use Rattle.device_in_place.specs.On.{rest_in, world_in, on_by, fed_on};
 ghost use Rattle.device_in_place.specs.Byte.{plain_at, laid_to, lay_byte_of, clear_of, byte_on};
 ghost use Rattle.device_in_place.specs.Inner.{called_on, refusal_on};
 
-use device_feed::{Passed, begun, is_going, kind_of, refused};
+use device_feed::{Passed, is_going, kind_of, refused};
 use device_replies::Answer;
 use device_state::refusal::Refusal;
-use device_state::{Numbers, Setup, refusal};
+use device_state::{Numbers, Setup, State, refusal};
 use store_flash::storage::{PAGE_SIZE, Page};
 use wire_frames::frame;
 use wire_frames::frame::{FRAME, FrameBytes, Kind};
@@ -64,25 +64,26 @@ fn ended(
     setup: Setup,
     kind: Kind,
     taken: usize,
-    n: Numbers,
+    n: &mut Numbers,
     s: &mut [u8],
     flash: &mut [u8],
     meta: &mut [u8],
     reply: &mut [u8],
 ) -> Passed
     requires { 128 ≤ length s.old }
-    ensures { called_on result s.new flash.new meta.new reply.new ≡
+    ensures { called_on result n.new s.new flash.new meta.new reply.new ≡
         on_by (rest_in 52 64 s.old)
-        (ended_by taken (dispatch_of 52 64 setup kind (world_in 52 64 s.old n flash.old meta.old) reply.old)) }
+        (ended_by taken (dispatch_of 52 64 setup kind (world_in 52 64 s.old n.old flash.old meta.old) reply.old)) }
 {
-    let mut f = taken_out(s, 0);
-    let mut page = taken_out(s, FRAME);
-    let d = device_dispatcher::dispatch(setup, kind, &mut f, &mut page, n, flash, meta, reply);
-    put_back(s, &f, &page);
-    let left = d.numbers;
-    let answer = d.answer;
+    let mut state = State {
+        frame: taken_out(s, 0),
+        page: taken_out(s, FRAME),
+        numbers: *n,
+    };
+    let answer = device_dispatcher::dispatch(setup, kind, &mut state, flash, meta, reply);
+    put_back(s, &state.frame, &state.page);
+    *n = state.numbers;
     Passed {
-        numbers: left,
         taken: taken,
         answer: answer,
     }
@@ -99,29 +100,27 @@ fn read(s: &mut [u8], got: usize, bytes: &[u8]) -> frame::Passed
 // A call that is not refused.
 fn pass(
     setup: Setup,
-    n: Numbers,
+    n: &mut Numbers,
     s: &mut [u8],
     bytes: &[u8],
     flash: &mut [u8],
     meta: &mut [u8],
     reply: &mut [u8],
 ) -> Passed
-    requires { (128 ≤ length s.old) × (well_of 52 true (take 64 s.old) n.got ≡ true) }
-    ensures { called_on result s.new flash.new meta.new reply.new ≡
+    requires { (128 ≤ length s.old) × (well_of 52 true (take 64 s.old) n.old.got ≡ true) }
+    ensures { called_on result n.new s.new flash.new meta.new reply.new ≡
         on_by (rest_in 52 64 s.old)
-        (taken_of 52 64 setup (world_in 52 64 s.old n flash.old meta.old) bytes.now reply.old) }
+        (taken_of 52 64 setup (world_in 52 64 s.old n.old flash.old meta.old) bytes.now reply.old) }
 {
     let p = read(s, n.got, bytes);
-    let stop = p.stop;
-    let m = begun(n, p.got);
+    n.got = p.got;
     // made once, and replaced: of a struct that each way out makes the compiler keeps parts in memory
     let mut r = Passed {
-        numbers: m,
         taken: p.taken,
         answer: Answer::Quiet,
     };
-    if !is_going(stop) {
-        r = ended(setup, kind_of(stop), p.taken, m, s, flash, meta, reply);
+    if !is_going(p.stop) {
+        r = ended(setup, kind_of(p.stop), p.taken, n, s, flash, meta, reply);
     }
     r
 }
@@ -156,19 +155,18 @@ fn refusal_of(setup: Setup, s: &[u8], n: Numbers, flash: usize, meta: usize, roo
 // The call: `feed_in` with both arrays in one slice.
 pub fn feed_on(
     setup: Setup,
-    n: Numbers,
+    n: &mut Numbers,
     s: &mut [u8],
     bytes: &[u8],
     flash: &mut [u8],
     meta: &mut [u8],
     reply: &mut [u8],
 ) -> Passed
-    ensures { called_on result s.new flash.new meta.new reply.new ≡
-        fed_on 52 64 setup s.old n bytes.now flash.old meta.old reply.old }
+    ensures { called_on result n.new s.new flash.new meta.new reply.new ≡
+        fed_on 52 64 setup s.old n.old bytes.now flash.old meta.old reply.old }
 {
-    let refusal = refusal_of(setup, s, n, flash.len(), meta.len(), reply.len());
+    let refusal = refusal_of(setup, s, *n, flash.len(), meta.len(), reply.len());
     let mut r = Passed {
-        numbers: n,
         taken: 0,
         answer: refused(refusal),
     };

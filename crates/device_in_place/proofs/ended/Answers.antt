@@ -8,4 +8,4 @@ returns c =
     let a = c.args in
     rw c.put_back.ensures
     (ap (λ e. on_by (rest_in 52 64 a.s.now) (ended_by a.taken e))
-    (rw (c.taken_out-f.ensures, c.taken_out-page.ensures) at c.dispatch-d.ensures))
+    (rw (c.taken_out.ensures, c.taken_out-2.ensures) at c.dispatch-answer.ensures))

@@ -11,26 +11,26 @@ use Rattle.device_in_place.proofs.feed_on.Goals as goal
 pub pass-r-requires : goal.pass-r-requires
 pass-r-requires c =
     let a = c.args in
-    let n = on_allowed a.setup a.s.now a.n a.bytes.now a.flash.now a.meta.now a.reply.now _ c.refusal_of-refusal.ensures _
+    let n = on_allowed a.setup a.s.now a.n.now a.bytes.now a.flash.now a.meta.now a.reply.now _ c.refusal_of-refusal.ensures _
     c.is_none.ensures c.if-is_none.true in
-    let o = allowed 52 64 a.setup (take 64 a.s.now) a.n _ _ _ _ n.1 _ c.is_none.ensures c.if-is_none.true in
+    let o = allowed 52 64 a.setup (take 64 a.s.now) a.n.now _ _ _ _ n.1 _ c.is_none.ensures c.if-is_none.true in
     (n.0, o.well)
 
 pub returns-then-is_none : goal.returns-then-is_none
 returns-then-is_none c =
     let a = c.args in
     let s : List ℕ = a.s.now in
-    let n = on_allowed a.setup s a.n a.bytes.now a.flash.now a.meta.now a.reply.now _ c.refusal_of-refusal.ensures _
+    let n = on_allowed a.setup s a.n.now a.bytes.now a.flash.now a.meta.now a.reply.now _ c.refusal_of-refusal.ensures _
     c.is_none.ensures c.if-is_none.true in
     c.pass-r.ensures ∙
     ap (on_by (rest_in 52 64 s))
-    (call_taken 52 64 a.setup (world_in 52 64 s a.n a.flash.now a.meta.now) a.bytes.now a.reply.now _ n.1 _
+    (call_taken 52 64 a.setup (world_in 52 64 s a.n.now a.flash.now a.meta.now) a.bytes.now a.reply.now _ n.1 _
     c.is_none.ensures c.if-is_none.true _ refl) ∙
-    on_long a.setup s a.n a.bytes.now a.flash.now a.meta.now a.reply.now n.0
+    on_long a.setup s a.n.now a.bytes.now a.flash.now a.meta.now a.reply.now n.0
 
 pub returns-else-is_none : goal.returns-else-is_none
 returns-else-is_none c =
     let a = c.args in
     rw c.refused.ensures
-    (on_refused a.setup a.s.now a.n a.bytes.now a.flash.now a.meta.now a.reply.now
+    (on_refused a.setup a.s.now a.n.now a.bytes.now a.flash.now a.meta.now a.reply.now
     (refusal_number c.refusal_of-refusal.result) c.refusal_of-refusal.ensures _ c.is_none.ensures c.if-is_none.false)

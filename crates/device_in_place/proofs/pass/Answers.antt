@@ -16,8 +16,8 @@ returns-then-not-is_going c =
     let r = c.read-p in
     let k : c.kind_of.result ≡ kind_of (said_of r.result.stop) = kind_apart _ _ c.kind_of.ensures in
     on_ended a.s.now r.new.s r.ensures.1 a.setup _ _ _ a.flash.now a.meta.now a.reply.now _ _
-    (rw (k, c.begun-m.ensures) at c.ended-r.ensures)
-    (call_ended 52 64 a.setup (world_in 52 64 a.s.now a.n a.flash.now a.meta.now) a.bytes.now a.reply.now _ r.ensures.0
+    (rw k at c.ended-r.ensures)
+    (call_ended 52 64 a.setup (world_in 52 64 a.s.now a.n.now a.flash.now a.meta.now) a.bytes.now a.reply.now _ r.ensures.0
     c.requires.1
     (sym c.is_going.ensures ∙ c.if-not-is_going.true) _ refl)
 
@@ -26,9 +26,8 @@ returns-else-not-is_going c =
     let a = c.args in
     let r = c.read-p in
     let t : List ℕ = r.new.s in
-    rw c.begun-m.ensures
-    (on_quiet a.s.now t r.ensures.1 (seen (take 64 t) r.result.got r.result.taken r.result.stop) refl a.n a.flash.now a.meta.now
+    (on_quiet a.s.now t r.ensures.1 (seen (take 64 t) r.result.got r.result.taken r.result.stop) refl a.n.now a.flash.now a.meta.now
     a.reply.now _
-    (call_quiet 52 64 a.setup (world_in 52 64 a.s.now a.n a.flash.now a.meta.now) a.bytes.now a.reply.now _ r.ensures.0
+    (call_quiet 52 64 a.setup (world_in 52 64 a.s.now a.n.now a.flash.now a.meta.now) a.bytes.now a.reply.now _ r.ensures.0
     c.requires.1
     (sym c.is_going.ensures ∙ c.if-not-is_going.false)))
