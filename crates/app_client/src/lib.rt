@@ -5,14 +5,12 @@
 
 ghost use Rattle.std.specs.Prelude.{◌≡◌, true};
 ghost use Rattle.wire_frames.specs.Stored.{well_of};
-ghost use Rattle.app_state.specs.State.{world, got_set};
 ghost use Rattle.app_client.specs.Feed.{taken_of, app_fed_of};
 ghost use Rattle.app_client.specs.Inner.{passed_to, fed_to};
 
-use app_state::{AppNumbers, AppSetup, AppState};
-use device_feed::{is_going, kind_of, refused};
+use app_state::{AppSetup, AppState};
+use device_feed::{Passed, is_going, kind_of, refused};
 use device_replies::Answer;
-use wire_frames::frame::FrameBytes;
 
 // The state afterwards, how many bytes of the piece were taken, and what the call says.
 #[derive(Clone, Copy)]
@@ -22,74 +20,50 @@ pub struct AppFed {
     pub answer: Answer,
 }
 
-// The same where the frame is lent: what it does not hold.
-#[derive(Clone, Copy)]
-pub struct AppPassed {
-    pub numbers: AppNumbers,
-    pub taken: usize,
-    pub answer: Answer,
-}
-
-// The numbers once so many bytes of a frame have begun.
-fn begun(n: AppNumbers, got: usize) -> AppNumbers
-    ensures { result ≡ got_set got n }
-{
-    let mut m = n;
-    m.got = got;
-    m
-}
-
 // A call that is not refused.
 fn pass(
     setup: AppSetup,
-    n: AppNumbers,
-    f: &mut FrameBytes,
+    state: &mut AppState,
     bytes: &[u8],
     meta: &mut [u8],
     reply: &mut [u8],
-) -> AppPassed
-    requires { well_of 52 true f.old n.got ≡ true }
-    ensures { passed_to result f.new meta.new reply.new ≡
-        taken_of 52 setup (world f.old n meta.old) bytes.now reply.old }
+) -> Passed
+    requires { well_of 52 true state.old.frame state.old.numbers.got ≡ true }
+    ensures { passed_to result state.new meta.new reply.new ≡
+        taken_of 52 setup (record { state = state.old; meta = meta.old }) bytes.now reply.old }
 {
-    let p = wire_reader::read_in(f, n.got, true, bytes);
-    let stop = p.stop;
-    let m = begun(n, p.got);
-    if is_going(stop) {
-        return AppPassed {
-            numbers: m,
+    let got = state.numbers.got;
+    let p = wire_reader::read_in(&mut state.frame, got, true, bytes);
+    state.numbers.got = p.got;
+    if is_going(p.stop) {
+        return Passed {
             taken: p.taken,
             answer: Answer::Quiet,
         };
     }
-    let d = app_dispatcher::app_dispatch(setup, kind_of(stop), f, m, meta, reply);
-    let left = d.numbers;
-    let answer = d.answer;
-    AppPassed {
-        numbers: left,
+    Passed {
         taken: p.taken,
-        answer: answer,
+        answer: app_dispatcher::app_dispatch(setup, kind_of(p.stop), state, meta, reply),
     }
 }
 
-// `app_feed` with the frame lent and the numbers beside it: for who keeps a state in place and feeds it byte by byte.
+// `app_feed` on a state that is lent: for who keeps it in place and feeds it byte by byte.
 pub fn app_feed_in(
     setup: AppSetup,
-    n: AppNumbers,
-    f: &mut FrameBytes,
+    state: &mut AppState,
     bytes: &[u8],
     meta: &mut [u8],
     reply: &mut [u8],
-) -> AppPassed
-    ensures { passed_to result f.new meta.new reply.new ≡
-        app_fed_of 52 64 setup (world f.old n meta.old) bytes.now reply.old }
+) -> Passed
+    ensures { passed_to result state.new meta.new reply.new ≡
+        app_fed_of 52 64 setup (record { state = state.old; meta = meta.old }) bytes.now reply.old }
 {
-    let refusal = app_state::app_refuses(setup, f, n, meta.len(), reply.len());
+    let n = state.numbers;
+    let refusal = app_state::app_refuses(setup, &state.frame, n, meta.len(), reply.len());
     if refusal.is_none() {
-        return pass(setup, n, f, bytes, meta, reply);
+        return pass(setup, state, bytes, meta, reply);
     }
-    AppPassed {
-        numbers: n,
+    Passed {
         taken: 0,
         answer: refused(refusal),
     }
@@ -108,17 +82,11 @@ pub fn app_feed(
     ensures { fed_to result meta.new reply.new ≡
         app_fed_of 52 64 setup (record { state = state; meta = meta.old }) bytes.now reply.old }
 {
-    let mut f = state.frame;
-    let n = state.numbers;
-    let r = app_feed_in(setup, n, &mut f, bytes, meta, reply);
-    let after = r.numbers;
-    let answer = r.answer;
+    let mut after = state;
+    let r = app_feed_in(setup, &mut after, bytes, meta, reply);
     AppFed {
-        state: AppState {
-            frame: f,
-            numbers: after,
-        },
+        state: after,
         taken: r.taken,
-        answer: answer,
+        answer: r.answer,
     }
 }

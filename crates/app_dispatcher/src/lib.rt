@@ -8,11 +8,10 @@ ghost use Rattle.wire_numbers.specs.Names.{mode_number};
 ghost use Rattle.wire_numbers.specs.Flags.{bit_of};
 ghost use Rattle.wire_frames.specs.Fields.{cmd_of, flags_of};
 ghost use Rattle.cmd_info.specs.Info.{info_laid};
-ghost use Rattle.app_state.specs.State.{world, selected_set, closed_set};
 ghost use Rattle.app_dispatcher.specs.Acts.{app_info, replied_of, resets, row_kept, spoken_of, act_of};
 ghost use Rattle.app_dispatcher.specs.Inner.{replied_to, ended_to};
 
-use app_state::{AppNumbers, AppSetup};
+use app_state::{AppSetup, AppState};
 use device_dispatcher::{id_len, is_good, status_of};
 use device_replies::Answer;
 use device_turns::Turn;
@@ -29,29 +28,6 @@ const MODE: u8 = 1;
 struct Response {
     status: Status,
     len: u16,
-}
-
-// What the end of a frame leaves beside what it is lent.
-#[derive(Clone, Copy)]
-pub struct AppDispatched {
-    pub answer: Answer,
-    pub numbers: AppNumbers,
-}
-
-fn selecting(n: AppNumbers, on: bool) -> AppNumbers
-    ensures { result ≡ selected_set on n }
-{
-    let mut m = n;
-    m.selected = on;
-    m
-}
-
-fn closing(n: AppNumbers) -> AppNumbers
-    ensures { result ≡ closed_set true n }
-{
-    let mut m = n;
-    m.closed = true;
-    m
 }
 
 fn info(setup: AppSetup, f: &mut FrameBytes, meta: &[u8])
@@ -153,58 +129,49 @@ fn speak(
     setup: AppSetup,
     kind: Kind,
     wait: u8,
-    f: &mut FrameBytes,
-    n: AppNumbers,
+    state: &mut AppState,
     meta: &mut [u8],
     room: &mut [u8],
-) -> AppDispatched
-    ensures { ended_to result f.new meta.new room.new ≡
-        spoken_of 52 setup kind chosen wait (world f.old n meta.old) room.old }
+) -> Answer
+    ensures { ended_to result state.new meta.new room.new ≡
+        spoken_of 52 setup kind chosen wait (record { state = state.old; meta = meta.old }) room.old }
 {
-    if resets(chosen, kind, f) {
-        store(f, meta);
-        return AppDispatched {
-            answer: Answer::Restart {
-                len: 0,
-                mode: mode(f),
-            },
-            numbers: closing(n),
+    if resets(chosen, kind, &state.frame) {
+        store(&state.frame, meta);
+        state.numbers.closed = true;
+        return Answer::Restart {
+            len: 0,
+            mode: mode(&state.frame),
         };
     }
-    let x = respond(chosen, setup, kind, f, meta);
-    let status = x.status;
-    AppDispatched {
-        answer: device_replies::reply(status, x.len, false, wait, f, room),
-        numbers: n,
-    }
+    let x = respond(chosen, setup, kind, &mut state.frame, meta);
+    device_replies::reply(x.status, x.len, false, wait, &mut state.frame, room)
 }
 
 // A frame that has ended in this way.
 pub fn app_dispatch(
     setup: AppSetup,
     kind: Kind,
-    f: &mut FrameBytes,
-    n: AppNumbers,
+    state: &mut AppState,
     meta: &mut [u8],
     room: &mut [u8],
-) -> AppDispatched
-    ensures { ended_to result f.new meta.new room.new ≡
-        act_of 52 setup kind (world f.old n meta.old) room.old }
+) -> Answer
+    ensures { ended_to result state.new meta.new room.new ≡
+        act_of 52 setup kind (record { state = state.old; meta = meta.old }) room.old }
 {
-    let id = setup.id;
-    let t = device_turns::decide(id, setup.id_len, kind, f, n.selected);
-    match t {
-        Turn::Silent { why, selected } => AppDispatched {
-            answer: Answer::Silent { why: why },
-            numbers: selecting(n, selected),
-        },
+    let on = state.numbers.selected;
+    match device_turns::decide(setup.id, setup.id_len, kind, &mut state.frame, on) {
+        Turn::Silent { why, selected } => {
+            state.numbers.selected = selected;
+            Answer::Silent { why: why }
+        }
         Turn::Reply {
             chosen,
             selected,
             wait,
         } => {
-            let m = selecting(n, selected);
-            speak(chosen, setup, kind, wait, f, m, meta, room)
+            state.numbers.selected = selected;
+            speak(chosen, setup, kind, wait, state, meta, room)
         }
     }
 }
