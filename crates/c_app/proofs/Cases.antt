@@ -10,11 +10,12 @@ use Rattle.device_replies.specs.Answers.{Told, mute, told_of}
 use Rattle.device_replies.specs.Inner.{told_by}
 use Rattle.device_replies.specs.declared.Said.{Said}
 use Rattle.app_state.specs.declared.AppSetup.{AppSetup}
-use Rattle.app_state.specs.State.{new_app, state_with}
+use Rattle.app_state.specs.declared.AppState.{AppState}
+use Rattle.app_state.specs.State.{new_app}
 use Rattle.app_state.specs.Refusals.{app_set_up}
-use Rattle.app_client.specs.declared.AppPassed.{AppPassed}
 use Rattle.app_client.specs.Feed.{Called, app_fed_of}
 use Rattle.app_client.specs.Inner.{passed_to}
+use Rattle.device_feed.specs.declared.Passed.{Passed}
 use Rattle.c_layout.specs.Layout.{answer_bytes}
 use Rattle.c_layout.proofs.Answering.{answer_short}
 use Rattle.c_start.specs.Start.{after_new}
@@ -30,13 +31,13 @@ unfolding Calls.c_app_new
 new_laid s h = simp (eq-eqb (length s) 67 h)
 
 -- what the code of a feed leaves
-pub called : (answer : List ℕ) (p : AppPassed) (f meta room : List ℕ) (x : Called) → passed_to p f meta room ≡ x →
+pub called : (answer : List ℕ) (p : Passed) (y : AppState) (meta room : List ℕ) (x : Called) → passed_to p y meta room ≡ x →
     (said : Said) → told_by said ≡ told_of p.answer → (r : ℕ) → r ≡ said.number →
-    (s : List ℕ) → s ≡ app_bytes (state_with f p.numbers) → (a : List ℕ) → a ≡ over (answer_bytes (told_by said) p.taken) answer →
+    (s : List ℕ) → s ≡ app_bytes y → (a : List ℕ) → a ≡ over (answer_bytes (told_by said) p.taken) answer →
     Calls.after_app r s meta room a ≡ Calls.app_called x answer
-called answer p f meta room x e said k r kr s ks a ka =
+called answer p y meta room x e said k r kr s ks a ka =
     rw (kr, ks, ka)
-    (ap (λ (t : Told). Calls.after_app t.number (app_bytes (state_with f p.numbers)) meta room (over (answer_bytes t p.taken) answer)) k ∙
+    (ap (λ (t : Told). Calls.after_app t.number (app_bytes y) meta room (over (answer_bytes t p.taken) answer)) k ∙
     ap (λ (v : Called). Calls.app_called v answer) e)
 
 module _ (s : AppSetup) (state bytes meta reply answer : List ℕ) where

@@ -3,7 +3,6 @@
 #![tactic(auto)]
 
 ghost use Rattle.std.specs.Prelude.{◌≡◌, ◌≤◌, ◌++◌, eqb, length};
-ghost use Rattle.app_state.specs.State.{state_with};
 ghost use Rattle.app_state.specs.Refusals.{app_set_up};
 ghost use Rattle.app_record.specs.Changes.{leaves, confirm_of};
 ghost use Rattle.app_record.specs.Reads.{rate_told, position_told};
@@ -16,7 +15,7 @@ ghost use Rattle.c_app.specs.Calls.{hz_told, c_baud, place_told, c_position};
 
 use app_client::app_feed_in;
 use app_record::{PositionRead, RateRead, baud, confirm, position, set_baud, stored_number};
-use app_state::{AppNumbers, AppSetup, app_new, app_refuses};
+use app_state::{AppNumbers, AppSetup, AppState, app_new, app_refuses};
 use c_layout::{ANSWER_SIZE, flag, lay_answer, refuse};
 use device_replies::numbers_of;
 use device_state::PRESENT;
@@ -87,6 +86,17 @@ fn frame_from(s: &[u8]) -> FrameBytes
     f
 }
 
+// The state that these bytes stand for.
+fn app_from(s: &[u8]) -> AppState
+    requires { length s.now ≡ app_state_size 52 }
+    ensures { result ≡ app_from 52 s.now }
+{
+    AppState {
+        frame: frame_from(s),
+        numbers: numbers_from(s),
+    }
+}
+
 // What a state has beside its frame, laid where it stands.
 fn lay_numbers(s: &mut [u8], n: AppNumbers)
     requires { length s.old ≡ app_state_size 52 }
@@ -98,12 +108,12 @@ fn lay_numbers(s: &mut [u8], n: AppNumbers)
 }
 
 // A state, laid over bytes that are as many.
-fn lay_app(s: &mut [u8], f: &FrameBytes, n: AppNumbers)
+fn lay_app(s: &mut [u8], app: &AppState)
     requires { length s.old ≡ app_state_size 52 }
-    ensures { s.new ≡ app_bytes (state_with f.now n) }
+    ensures { s.new ≡ app_bytes app.now }
 {
-    lay_numbers(s, n);
-    s[..FRAME].copy_from_slice(f);
+    lay_numbers(s, app.numbers);
+    s[..FRAME].copy_from_slice(&app.frame);
 }
 
 // A new state, where the buffer is as long as one.
@@ -113,9 +123,7 @@ pub fn app_new_in(state: &mut [u8]) -> u8
     if state.len() != APP_STATE_SIZE {
         return refusal_number(Refusal::BadState);
     }
-    let new = app_new();
-    let frame = new.frame;
-    lay_app(state, &frame, new.numbers);
+    lay_app(state, &app_new());
     0
 }
 
@@ -130,9 +138,8 @@ fn unanswered(setup: AppSetup, state: &[u8], meta: usize) -> u8
     requires { length state.now ≡ app_state_size 52 }
     ensures { result ≡ app_roomless 52 64 setup (app_from 52 state.now) meta }
 {
-    let f = frame_from(state);
-    let n = numbers_from(state);
-    refusal_number(app_refuses(setup, &f, n, meta, 0))
+    let app = app_from(state);
+    refusal_number(app_refuses(setup, &app.frame, app.numbers, meta, 0))
 }
 
 // The state is taken out, and laid back.
@@ -150,13 +157,10 @@ fn fed(
         app_called (app_fed_of 52 64 setup (app_world_from 52 state.old meta.old) bytes.now reply.old)
         answer.old }
 {
-    let n = numbers_from(state);
-    let mut f = frame_from(state);
-    let p = app_feed_in(setup, n, &mut f, bytes, meta, reply);
-    let left = p.numbers;
-    lay_app(state, &f, left);
-    let told = p.answer;
-    lay_answer(answer, numbers_of(told), p.taken)
+    let mut app = app_from(state);
+    let p = app_feed_in(setup, &mut app, bytes, meta, reply);
+    lay_app(state, &app);
+    lay_answer(answer, numbers_of(p.answer), p.taken)
 }
 
 // A feed, where the bytes hold a state; the setup's numbers are tried before that.

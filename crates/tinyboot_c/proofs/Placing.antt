@@ -6,6 +6,7 @@ use native.Mathlib.Omega.{arith}
 use lib.ListN.{length, length-append, length-drop, drop_of_length-le}
 use lib.Seq.{paste}
 use Rattle.device_replies.specs.Answers.{Told, told_of}
+use Rattle.device_state.specs.declared.Numbers.{Numbers}
 use Rattle.device_feed.specs.declared.Passed.{Passed}
 use Rattle.device_feed.specs.Feed.{Called}
 use Rattle.device_in_place.specs.On.{rest_in, CalledOn, on_by}
@@ -40,18 +41,18 @@ module _ (answer : List ℕ) where
       (answered y.told y.taken answer)
 
   -- s is the state's bytes before the call, t after it; u those with their numbers
-  pub fed_placed : (p : Passed) (s t flash meta reply : List ℕ) (x : Called) → length s ≡ 136 → length t ≡ 136 →
-      called_on p t flash meta reply ≡ on_by (rest_in 52 64 s) x →
+  pub fed_placed : (p : Passed) (n : Numbers) (s t flash meta reply : List ℕ) (x : Called) → length s ≡ 136 → length t ≡ 136 →
+      called_on p n t flash meta reply ≡ on_by (rest_in 52 64 s) x →
       (said : Said) → told_by said ≡ told_of p.answer → (r : ℕ) → r ≡ said.number →
-      (u : List ℕ) → u ≡ paste t 128 (number_bytes p.numbers) 8 →
+      (u : List ℕ) → u ≡ paste t 128 (number_bytes n) 8 →
       (a : List ℕ) → a ≡ answered (told_by said) p.taken answer →
       Calls.after_feed r u flash meta reply a ≡ laid x answer
-  fed_placed p s t flash meta reply x ls lt e said k r kr u ku a ka =
-      let n : r ≡ (told_of p.answer).number = kr ∙ ap (λ (v : Told). v.number) k in
+  fed_placed p n s t flash meta reply x ls lt e said k r kr u ku a ka =
+      let q : r ≡ (told_of p.answer).number = kr ∙ ap (λ (v : Told). v.number) k in
       let ra : a ≡ answered (told_of p.answer) p.taken answer = ka ∙ ap (λ (v : Told). answered v p.taken answer) k in
       let lx : length (x.left.state.frame ++ (x.left.state.page ++ rest_in 52 64 s)) ≡ 136 = ap (λ (v : CalledOn). length v.bytes) (sym e) ∙ lt in
       let nx : List ℕ = number_bytes x.left.state.numbers in
       let ln : length nx ≡ 8 = refl in
-      rw (n, ku, ra) refl ∙ ap left e ∙
+      rw (q, ku, ra) refl ∙ ap left e ∙
       ap (λ (v : List ℕ). Calls.after_feed x.told.number v x.left.flash x.left.meta x.room (answered x.told x.taken answer))
       (placed x.left.state.frame x.left.state.page (rest_in 52 64 s) nx lx (rest_size s ls) ln)

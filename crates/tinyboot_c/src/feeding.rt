@@ -79,12 +79,10 @@ fn fed_piece(
         laid (fed_of 52 64 setup (world_from 52 64 state.old flash.old meta.old) bytes.now
         reply.old) answer.old }
 {
-    let n = numbers_from(state);
-    let p = feed_on(setup, n, state, bytes, flash, meta, reply);
-    let left = p.numbers;
-    lay_numbers(state, left);
-    let told = p.answer;
-    lay_answer(answer, numbers_of(told), p.taken)
+    let mut n = numbers_from(state);
+    let p = feed_on(setup, &mut n, state, bytes, flash, meta, reply);
+    lay_numbers(state, n);
+    lay_answer(answer, numbers_of(p.answer), p.taken)
 }
 
 pub(crate) fn fed(

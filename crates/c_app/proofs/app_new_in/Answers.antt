@@ -9,5 +9,5 @@ returns-then-state-ne-APP_STATE_SIZE c = rw c.refusal_number.ensures (new_refuse
 
 pub returns : goal.returns
 returns c =
-    ap (after_new 0) (c.lay_app.ensures ∙ ap app_bytes c.app_new-new.ensures) ∙
+    ap (after_new 0) (c.lay_app.ensures ∙ ap app_bytes c.app_new.ensures) ∙
     new_laid c.args.state.now c.if-state-ne-APP_STATE_SIZE.false

@@ -8,7 +8,7 @@ use Rattle.c_app.proofs.fed.Goals as goal
 pub returns : goal.returns
 returns c =
     let a = c.args in
-    let e = rw (c.numbers_from-n.ensures, c.frame_from-f.ensures) at c.app_feed_in-p.ensures in
+    let e = rw c.app_from-app.ensures at c.app_feed_in-p.ensures in
     let x : Called = app_fed_of 52 64 a.setup (app_world_from 52 a.state.now a.meta.now) a.bytes.now a.reply.now in
     let v = c.lay_answer.ensures in
     called a.answer.now c.app_feed_in-p.result _ _ _ x e _ c.numbers_of.ensures _ v.0 _

@@ -13,7 +13,7 @@ pub copy_from_slice-requires : goal.copy_from_slice-requires
 copy_from_slice-requires c =
     let l : length c.lay_numbers.new.s ≡ 67 = c.lay_numbers.auto.s ∙ c.requires in
     let k : 64 ≤ length c.lay_numbers.new.s = omega (arith, l) in
-    let f : length c.args.f.now ≡ 64 = search rules in
+    let f : length c.args.app.now.frame ≡ 64 = search rules in
     length-take-le 64 c.lay_numbers.new.s k ∙ sym f
 
 pub returns : goal.returns
@@ -21,5 +21,5 @@ returns c =
     let a = c.args in
     let k : 64 ≤ length a.s.now = omega (arith, c.requires) in
     let l : List ℕ = c.lay_numbers.new.s in
-    ap (λ (v : List ℕ). v ++ drop 64 l) c.copy_from_slice.ensures.after ∙ ap (λ (v : List ℕ). a.f.now ++ drop 64 v) c.lay_numbers.ensures ∙
-    laid_before a.f.now a.s.now _ 64 k
+    ap (λ (v : List ℕ). v ++ drop 64 l) c.copy_from_slice.ensures.after ∙ ap (λ (v : List ℕ). a.app.now.frame ++ drop 64 v) c.lay_numbers.ensures ∙
+    laid_before a.app.now.frame a.s.now _ 64 k

@@ -3,4 +3,4 @@ use Rattle.c_app.proofs.unanswered.Goals as goal
 
 pub returns : goal.returns
 returns c =
-    c.refusal_number.ensures ∙ (rw (c.numbers_from-n.ensures, c.frame_from-f.ensures) at c.app_refuses.ensures)
+    c.refusal_number.ensures ∙ (rw c.app_from-app.ensures at c.app_refuses.ensures)

@@ -22,6 +22,6 @@ returns c =
     let x : Called = fed_of 52 64 a.setup (world_from 52 64 a.state.now a.flash.now a.meta.now) a.bytes.now a.reply.now in
     let u = c.numbers_of.ensures in
     let v = c.lay_answer.ensures in
-    fed_placed a.answer.now p a.state.now _ _ _ _ x ls (c.feed_on-p.auto.s ∙ ls)
+    fed_placed a.answer.now p _ a.state.now _ _ _ _ x ls (c.feed_on-p.auto.s ∙ ls)
     (e ∙ sym (on_long _ _ _ _ _ _ _ h))
     _ u _ v.0 _ c.lay_numbers.ensures _ v.1
