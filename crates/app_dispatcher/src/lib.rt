@@ -60,22 +60,28 @@ fn is_reset(f: &FrameBytes) -> bool
     f[2] == 4
 }
 
+// A reply of no data.
+fn bare(status: Status) -> Response
+    ensures { result ≡ record { status = status; len = 0 } }
+{
+    Response {
+        status: status,
+        len: 0,
+    }
+}
+
 // A Select's reply carries the id; an error is replied to; of the commands Info alone has data.
 fn respond(chosen: bool, setup: AppSetup, kind: Kind, f: &mut FrameBytes, meta: &[u8]) -> Response
     ensures { replied_to result f.new ≡ replied_of 52 setup kind chosen f.old meta.now }
 {
     if chosen {
-        let id = setup.id;
         return Response {
             status: Status::Ok,
-            len: id_len(id, setup.id_len),
+            len: id_len(setup.id, setup.id_len),
         };
     }
     if !is_good(kind) {
-        return Response {
-            status: status_of(kind),
-            len: 0,
-        };
+        return bare(status_of(kind));
     }
     if is_info(f) {
         info(setup, f, meta);
@@ -84,10 +90,7 @@ fn respond(chosen: bool, setup: AppSetup, kind: Kind, f: &mut FrameBytes, meta: 
             len: InfoData::wire_len(),
         };
     }
-    Response {
-        status: Status::Unsupported,
-        len: 0,
-    }
+    bare(Status::Unsupported)
 }
 
 fn resets(chosen: bool, kind: Kind, f: &FrameBytes) -> bool

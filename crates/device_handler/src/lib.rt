@@ -57,9 +57,8 @@ fn restart(status: Status) -> Handled
     ensures { result ≡ restart_to status }
 {
     Handled {
-        status: status,
-        len: 0,
         restart: is_ok(status),
+        ..bare(status)
     }
 }
 
@@ -123,13 +122,11 @@ fn carry(
             );
             loaded(InfoData::SIZE)
         }
-        Cmd::Erase => bare(cmd_erase::cmd_erase(
-            setup.erase_size,
-            setup.capacity,
-            &state.frame,
-            flash,
-            meta,
-        )),
+        Cmd::Erase => {
+            let f = &state.frame;
+            let status = cmd_erase::cmd_erase(setup.erase_size, setup.capacity, f, flash, meta);
+            bare(status)
+        }
         Cmd::Write => write(setup, state, flash, meta),
         Cmd::Verify => check(setup, state, flash, meta),
         Cmd::Reset => restart(cmd_reset::cmd_reset(&state.frame, flash, meta)),

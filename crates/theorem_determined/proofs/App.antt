@@ -36,16 +36,14 @@ app_refuses κs a o o' p q i = (refusal_apart o.0 o'.0 (plain p q) i, o.1)
 
 pub app_dispatch : Determined app_dispatcher_contracts.app_dispatch.ended app_dispatcher.app_dispatch.Reads.Post
 app_dispatch κs a o o' p q i =
-    let e = plain p q in (
-      record { answer = answer_apart o.0.answer o'.0.answer (λ j. (e j).told) i; numbers = (e i).left.state.numbers },
-      (tt, (tt, ((e i).left.state.frame, (tt, ((e i).left.meta, ((e i).room, tt)))))),
-    )
+    let e = plain p q in
+    (answer_apart o.0 o'.0 (λ j. (e j).told) i, (tt, (tt, ((e i).left.state, ((e i).left.meta, ((e i).room, tt))))))
 
 pub app_feed_in : Determined app_client_contracts.app_feed_in.ended app_client.app_feed_in.Reads.Post
 app_feed_in κs a o o' p q i =
     let e = plain p q in (
-      record { numbers = (e i).left.state.numbers; taken = (e i).taken; answer = answer_apart o.0.answer o'.0.answer (λ j. (e j).told) i },
-      (tt, (tt, ((e i).left.state.frame, (tt, ((e i).left.meta, ((e i).room, tt)))))),
+      record { taken = (e i).taken; answer = answer_apart o.0.answer o'.0.answer (λ j. (e j).told) i },
+      (tt, ((e i).left.state, (tt, ((e i).left.meta, ((e i).room, tt))))),
     )
 
 pub app_feed : Determined app_client_contracts.app_feed.ended app_client.app_feed.Reads.Post

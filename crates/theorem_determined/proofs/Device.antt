@@ -102,9 +102,8 @@ handle κs a o o' p q i =
         status = status_apart o.0.status o'.0.status (λ j. (e j).status) i;
         len = (e i).len;
         restart = (e i).restart;
-        numbers = (e i).left.state.numbers;
       },
-      (tt, ((e i).left.state.frame, ((e i).left.state.page, (tt, ((e i).left.flash, ((e i).left.meta, tt)))))),
+      (tt, ((e i).left.state, ((e i).left.flash, ((e i).left.meta, tt)))),
     )
 
 pub why_number : Determined device_turns_contracts.why_number.ended device_turns.why_number.Reads.Post
@@ -142,10 +141,8 @@ id_len κs a o o' p q i = (plain p q i, o.1)
 
 pub dispatch : Determined device_dispatcher_contracts.dispatch.ended device_dispatcher.dispatch.Reads.Post
 dispatch κs a o o' p q i =
-    let e = plain p q in (
-      record { answer = answer_apart o.0.answer o'.0.answer (λ j. (e j).told) i; numbers = (e i).left.state.numbers },
-      (tt, (tt, ((e i).left.state.frame, ((e i).left.state.page, (tt, ((e i).left.flash, ((e i).left.meta, ((e i).room, tt)))))))),
-    )
+    let e = plain p q in
+    (answer_apart o.0 o'.0 (λ j. (e j).told) i, (tt, (tt, ((e i).left.state, ((e i).left.flash, ((e i).left.meta, ((e i).room, tt)))))))
 
 pub refused : Determined device_feed_contracts.refused.ended device_feed.refused.Reads.Post
 refused κs a o o' p q i = (answer_apart o.0 o'.0 (plain p q) i, o.1)
@@ -156,14 +153,11 @@ is_going κs a o o' p q i = (plain p q i, o.1)
 pub kind_of : Determined device_feed_contracts.kind_of.ended device_feed.kind_of.Reads.Post
 kind_of κs a o o' p q i = (kind_apart o.0 o'.0 (plain p q) i, o.1)
 
-pub begun : Determined device_feed_contracts.begun.ended device_feed.begun.Reads.Post
-begun κs a o o' p q i = (plain p q i, o.1)
-
 pub feed_in : Determined device_feed_contracts.feed_in.ended device_feed.feed_in.Reads.Post
 feed_in κs a o o' p q i =
     let e = plain p q in (
-      record { numbers = (e i).left.state.numbers; taken = (e i).taken; answer = answer_apart o.0.answer o'.0.answer (λ j. (e j).told) i },
-      (tt, (tt, ((e i).left.state.frame, ((e i).left.state.page, (tt, ((e i).left.flash, ((e i).left.meta, ((e i).room, tt)))))))),
+      record { taken = (e i).taken; answer = answer_apart o.0.answer o'.0.answer (λ j. (e j).told) i },
+      (tt, ((e i).left.state, (tt, ((e i).left.flash, ((e i).left.meta, ((e i).room, tt)))))),
     )
 
 pub feed : Determined device_feed_contracts.feed.ended device_feed.feed.Reads.Post
@@ -176,8 +170,8 @@ feed κs a o o' p q i =
 pub feed_on : Determined device_in_place_contracts.feed_on.ended device_in_place.feed_on.Reads.Post
 feed_on κs a o o' p q i =
     let e = plain p q in (
-      record { numbers = (e i).numbers; taken = (e i).taken; answer = answer_apart o.0.answer o'.0.answer (λ j. (e j).told) i },
-      (tt, (tt, ((e i).bytes, (tt, ((e i).flash, ((e i).meta, ((e i).room, tt))))))),
+      record { taken = (e i).taken; answer = answer_apart o.0.answer o'.0.answer (λ j. (e j).told) i },
+      (tt, ((e i).numbers, ((e i).bytes, (tt, ((e i).flash, ((e i).meta, ((e i).room, tt))))))),
     )
 
 pub byte_on : Determined device_in_place_contracts.byte_on.ended device_in_place.byte_on.Reads.Post
