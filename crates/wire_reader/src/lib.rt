@@ -9,6 +9,7 @@ ghost use Rattle.laws.specs.Pick.{pick};
 ghost use Rattle.wire_numbers.specs.Crc.{crc_of};
 ghost use Rattle.wire_frames.specs.Fields.{len_of};
 ghost use Rattle.wire_frames.specs.Reading.{verdict_of, checked, read_frame};
+ghost use Rattle.wire_frames.specs.declared.frame.Stop.TheVariants.{Refused};
 ghost use Rattle.wire_frames.specs.Stored.{begun, Well, wanted_of, After, Turned, out_of, ended, said_of, seen, read_of, part_of};
 
 use wire_frames::frame::{End, FRAME, Frame, FrameBytes, Kind, Passed, Stop};
@@ -240,18 +241,25 @@ fn pass(f: &mut FrameBytes, start: usize, device: bool, bytes: &[u8]) -> Passed
     }
 }
 
+// The frame handed in is no true beginning: nothing is taken.
+fn refused(got: usize) -> Passed
+    ensures { result ≡ record { got = got; taken = 0; stop = Refused } }
+{
+    Passed {
+        got: got,
+        taken: 0,
+        stop: Stop::Refused,
+    }
+}
+
 // Takes bytes until the first frame has ended, into a lent slice that holds a frame of which `got` bytes have begun: nothing is copied but the bytes. A
 // device overhears what is no request; the desk reads every status.
 pub fn read_part(f: &mut [u8], got: usize, device: bool, bytes: &[u8]) -> Passed
     ensures { seen f.new result.got result.taken result.stop ≡ part_of 52 device f.old got bytes.now }
 {
-    if let Some(frame) = f.as_mut_array::<FRAME>() {
-        return read_in(frame, got, device, bytes);
-    }
-    Passed {
-        got: got,
-        taken: 0,
-        stop: Stop::Refused,
+    match f.as_mut_array::<FRAME>() {
+        Some(frame) => read_in(frame, got, device, bytes),
+        None => refused(got),
     }
 }
 
@@ -264,11 +272,7 @@ pub fn read_in(f: &mut FrameBytes, got: usize, device: bool, bytes: &[u8]) -> Pa
         f[1] = Sync::VALID.1;
         return pass(f, got, device, bytes);
     }
-    Passed {
-        got: got,
-        taken: 0,
-        stop: Stop::Refused,
-    }
+    refused(got)
 }
 
 fn read_frame(frame: Frame, device: bool, bytes: &[u8]) -> Taken

@@ -22,4 +22,4 @@ returns-then-is_beginning c =
 
 pub returns : goal.returns
 unfolding read_of
-returns c = simp (sym c.is_beginning.ensures ∙ c.if-is_beginning.false)
+returns c = rw c.refused.ensures (simp (sym c.is_beginning.ensures ∙ c.if-is_beginning.false))

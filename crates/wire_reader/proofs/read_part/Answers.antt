@@ -6,6 +6,6 @@ use Rattle.wire_reader.proofs.read_part.Goals as goal
 pub returns-in-Some : goal.returns-in-Some
 returns-in-Some c = search (rules, part_of_whole)
 
-pub returns : goal.returns
+pub returns-in-None : goal.returns-in-None
 unfolding part_of
-returns c = search rules
+returns-in-None c = rw c.refused.ensures (search rules)
