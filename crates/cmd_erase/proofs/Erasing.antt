@@ -10,8 +10,10 @@ use lib.Dec.{leb, ltb, eqb}
 use borrow.Author.Tests.{lt-ltb, le-ltb, ltb-true, leb-true, eq-eqb, ne_eqb, eqb-true, eqb-false, not-true}
 use Rattle.laws.specs.Pick.{pick}
 use Rattle.laws.proofs.Bools.{and_both}
-use Rattle.store_flash.specs.declared.storage.Stored.{Stored}
-use Rattle.store_flash.specs.Flash.{leaves, stored_number, unaligned}
+use Rattle.std.specs.Prelude.{Result, is_err, ⊤}
+use Rattle.store_flash.specs.declared.storage.FlashError.{FlashError}
+use Rattle.store_flash.specs.declared.storage.FlashError.TheVariants.{NotAligned, OutOfBounds}
+use Rattle.store_flash.specs.Flash.{leaves, stored_number, unaligned, stored, refused}
 use Rattle.store_flash.specs.Flash as flash
 use Rattle.store_record.specs.State.{state_read}
 use Rattle.store_record.specs.Record.{state_of, position_of, refreshed, advanced, updating, validating}
@@ -77,7 +79,7 @@ module _ (page erase capacity : ℕ) (f cells meta : List ℕ) (b : Bool) (e : b
   erase_outside w = simp (← e, w)
 
   -- m is the record once it is ready, s the storage's answer, x the cells that it leaves, t the status that the answer stands for
-  pub erase-carried : b ≡ true → (m : List ℕ) → m ≡ readied meta → (a n : ℕ) → a ≡ addr_of f → n ≡ byte_count_of f → (s : Stored) (x : List ℕ) →
+  pub erase-carried : b ≡ true → (m : List ℕ) → m ≡ readied meta → (a n : ℕ) → a ≡ addr_of f → n ≡ byte_count_of f → (s : Result ⊤ FlashError) (x : List ℕ) →
       leaves s x ≡ flash.pages_erased page cells a (a + n) →
       (t : ℕ) → t ≡ pick (eqb (stored_number s) 0) Ok WriteError → erased_to t x m ≡ erase_of page erase capacity f cells meta
   unfolding erase_of
@@ -117,7 +119,7 @@ fitting erase capacity f h =
 -- under a good setup the storage never refuses: the page divides the erase size, and the flash is as long as the capacity
 module _ (page erase capacity : ℕ) (f cells : List ℕ) (d : erase % page ≡ 0) (l : length cells ≡ capacity) where
   pub erase_taken : range_fits erase capacity f ≡ true →
-      flash.pages_erased page cells (addr_of f) (addr_of f + byte_count_of f) ≡ leaves Stored.Done (flash.erased cells (addr_of f) (byte_count_of f))
+      flash.pages_erased page cells (addr_of f) (addr_of f + byte_count_of f) ≡ stored (flash.erased cells (addr_of f) (byte_count_of f))
   erase_taken h =
       let g = fitting erase capacity f h in
       let p = whole page erase (addr_of f) d g.place in
@@ -147,7 +149,7 @@ left-length page cells from to = go (unaligned page from || unaligned page to) (
   where
     go : (u o : Bool) →
         length
-        (pick u (leaves Stored.NotAligned cells) (pick o (leaves Stored.OutOfBounds cells) (leaves Stored.Done (flash.erased cells from (to - from))))).cells
+        (pick u (refused NotAligned cells) (pick o (refused OutOfBounds cells) (stored (flash.erased cells from (to - from))))).cells
         ≡ length cells
     go true o = refl
     go false true = refl

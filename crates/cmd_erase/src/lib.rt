@@ -2,15 +2,11 @@
 
 #![tactic(auto)]
 
-ghost use Rattle.std.specs.Prelude.{◌≡◌, eqb};
-ghost use Rattle.laws.specs.Pick.{pick};
+ghost use Rattle.std.specs.Prelude.{◌≡◌};
 ghost use Rattle.wire_numbers.specs.Names.{status_number};
-ghost use Rattle.store_flash.specs.Flash.{stored_number};
-ghost use Rattle.wire_frames.specs.Fields.{Ok, WriteError};
 ghost use Rattle.cmd_erase.specs.Erase.{byte_count_of, range_fits, readied, erased_to, erase_of};
 
 use store_flash::storage;
-use store_flash::storage::Stored;
 use store_record::boot_meta_store;
 use store_record::traits::BootState;
 use wire_frames::fields;
@@ -59,16 +55,6 @@ fn ready(meta: &mut [u8])
     }
 }
 
-fn status_of(stored: Stored) -> Status
-    ensures { status_number result ≡ pick (eqb (stored_number stored) 0) Ok WriteError }
-{
-    match stored {
-        Stored::Done => Status::Ok,
-        Stored::NotAligned => Status::WriteError,
-        Stored::OutOfBounds => Status::WriteError,
-    }
-}
-
 // A range that does not fit changes nothing, the record neither.
 pub fn cmd_erase(
     erase_size: usize,
@@ -86,5 +72,8 @@ pub fn cmd_erase(
     ready(meta);
     let addr = fields::addr(f) as usize;
     let count = byte_count(f) as usize;
-    status_of(storage::erase(flash, addr, addr + count))
+    match storage::erase(flash, addr, addr + count) {
+        Ok(()) => Status::Ok,
+        Err(_) => Status::WriteError,
+    }
 }

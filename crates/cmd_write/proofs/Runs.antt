@@ -12,8 +12,7 @@ use Rattle.laws.specs.Pick.{pick}
 use Rattle.laws.proofs.Bools.{and_both}
 use Rattle.wire_frames.specs.Fields.{len_of, addr_of, flags_of, data_of, Ok, AddrOutOfBounds, Unsupported}
 use Rattle.wire_numbers.specs.Flags.{bit_set}
-use Rattle.store_flash.specs.Flash.{leaves, written, page_written, none_pending}
-use Rattle.store_flash.specs.declared.storage.Stored.{Stored}
+use Rattle.store_flash.specs.Flash.{stored, written, page_written, none_pending}
 use Rattle.store_flash.proofs.Answers.{write-all}
 use Rattle.store_record.specs.Record.{updating}
 use Rattle.cmd_write.specs.Write.{Run, page_out, put, took, poured, run_ended, flushed, write_fits, done, wrote_to, begin, written_of, write_of}
@@ -21,7 +20,7 @@ use Rattle.cmd_write.proofs.Writing.{write-length, poured_flash, poured_page}
 
 -- a page's start, and no more than is there
 write_fine : (f : List ℕ) (at n : ℕ) (p : List ℕ) → at % 64 ≡ 0 → n ≤ 64 → at + n ≤ length f →
-    page_written 64 f at (take n p) ≡ leaves Stored.Done (written f at (take n p))
+    page_written 64 f at (take n p) ≡ stored (written f at (take n p))
 write_fine f at n p a h l =
     let t : length (take n p) ≤ n = omega (arith, length-take n p) in
     write-all 64 f at (take n p) a (omega arith) (omega arith)

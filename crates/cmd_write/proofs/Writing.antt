@@ -12,8 +12,8 @@ use borrow.Author.Tests.{eq-eqb, ne_eqb, le-leb, lt-leb, eqb-false}
 use Rattle.laws.specs.Pick.{pick}
 use Rattle.wire_numbers.specs.Flags.{bit_set}
 use Rattle.wire_frames.specs.Fields.{len_of, addr_of, flags_of, data_of, Ok, WriteError, AddrOutOfBounds, Unsupported}
-use Rattle.store_flash.specs.Flash.{unaligned, leaves, written, page_written, none_pending}
-use Rattle.store_flash.specs.declared.storage.Stored.{Stored}
+use Rattle.store_flash.specs.Flash.{unaligned, stored, refused, written, page_written, none_pending}
+use Rattle.store_flash.specs.declared.storage.FlashError.TheVariants.{NotAligned, OutOfBounds}
 use Rattle.store_flash.proofs.Flash.{written-length}
 use Rattle.store_record.specs.Record.{updating}
 use Rattle.cmd_write.specs.Write.{Run, running, fails, page_out, put, took, poured, run_ended, flushed, write_fits, wrote_to, begin, written_of, write_of}
@@ -108,7 +108,7 @@ pub write-length : (page : ℕ) (f : List ℕ) (at : ℕ) (d : List ℕ) → len
 unfolding page_written
 write-length page f at d = go (unaligned page at || ltb page (length d)) (ltb (length f) (at + length d))
   where
-    go : (s t : Bool) → length (pick s (leaves Stored.NotAligned f) (pick t (leaves Stored.OutOfBounds f) (leaves Stored.Done (written f at d)))).cells ≡
+    go : (s t : Bool) → length (pick s (refused NotAligned f) (pick t (refused OutOfBounds f) (stored (written f at d)))).cells ≡
         length f
     go true t = refl
     go false true = refl

@@ -2,16 +2,16 @@
 
 #![tactic(auto)]
 
-ghost use Rattle.std.specs.Prelude.{◌≡◌, ◌||◌, ◌+◌, ◌^◌, ◌≤◌, ◌<◌, length, take, drop};
+ghost use Rattle.std.specs.Prelude.{◌≡◌, ◌+◌, ◌^◌, ◌≤◌, ◌<◌, length, take, drop};
 ghost use Rattle.std.proofs.Math.Seq.{paste};
 ghost use Rattle.laws.specs.Pick.{pick};
 ghost use Rattle.wire_numbers.specs.Names.{status_number};
-ghost use Rattle.store_flash.specs.Flash.{stored_number, none_pending};
+ghost use Rattle.store_flash.specs.Flash.{none_pending};
 ghost use Rattle.wire_frames.specs.Fields.{data_of, Ok, WriteError};
-ghost use Rattle.cmd_write.specs.Write.{running, fails, page_out, poured, flushed, write_fits, begin, written_of, wrote_to, write_of};
+ghost use Rattle.cmd_write.specs.Write.{running, page_out, poured, flushed, write_fits, begin, written_of, wrote_to, write_of};
 
 use store_flash::storage;
-use store_flash::storage::{NONE_PENDING, PAGE_SIZE, Page, Stored};
+use store_flash::storage::{NONE_PENDING, PAGE_SIZE, Page};
 use store_record::boot_meta_store;
 use wire_frames::frame::FrameBytes;
 use wire_numbers::{Status, WriteFlags, le};
@@ -35,12 +35,6 @@ pub struct Ran {
     pub next: u32,
 }
 
-fn refused(failed: bool, stored: Stored) -> bool
-    ensures { result ≡ (failed || fails (stored_number stored)) }
-{
-    failed || stored != Stored::Done
-}
-
 // The first n bytes of the page are written, to where they belong before the next byte.
 fn page_out(w: Run, n: u32, page: &[u8], flash: &mut [u8]) -> Run
     requires { n ≤ w.next }
@@ -51,7 +45,7 @@ fn page_out(w: Run, n: u32, page: &[u8], flash: &mut [u8]) -> Run
     Run {
         fill: 0,
         next: w.next,
-        failed: refused(w.failed, stored),
+        failed: w.failed || stored.is_err(),
     }
 }
 
@@ -136,7 +130,11 @@ fn fits(capacity: usize, f: &[u8], next: u32) -> bool
 fn status_of(failed: bool) -> Status
     ensures { status_number result ≡ pick failed WriteError Ok }
 {
-    if failed { Status::WriteError } else { Status::Ok }
+    if failed {
+        Status::WriteError
+    } else {
+        Status::Ok
+    }
 }
 
 // How many of n bytes fit in what is left of the page.

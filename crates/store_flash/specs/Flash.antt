@@ -1,7 +1,8 @@
 -- The flash: a page write and an erase (01, Record, flash, start; Commands).
-use Rattle.std.specs.Prelude.{ℕ, zero, suc, ◌+◌, ◌-◌, ◌%◌, List, [], ◌∷◌, Bool, ◌||◌, not, length, ltb, eqb, if◌then◌else◌}
+use Rattle.std.specs.Prelude.{ℕ, zero, suc, ◌+◌, ◌-◌, ◌%◌, List, [], ◌∷◌, Bool, ◌||◌, not, length, ltb, eqb, if◌then◌else◌, Result, Ok, Err, ⊤}
 use Rattle.std.specs.Int.Bits.{bit_and}
-use Rattle.store_flash.specs.declared.storage.Stored.{Stored}
+use Rattle.store_flash.specs.declared.storage.FlashError.{FlashError}
+use Rattle.store_flash.specs.declared.storage.FlashError.TheVariants.{NotAligned, OutOfBounds}
 
 -- a write can only clear bits: the bytes d are ANDed in from the cell `at` on, every other cell is kept (01, Record, flash, start)
 unfoldable pub written : List ℕ → ℕ → List ℕ → List ℕ
@@ -26,14 +27,23 @@ pub record Cells : Type 0 where
   pub answer : ℕ
   pub cells : List ℕ
 
--- the answers in the order of storage.rs: Done 0, NotAligned 1, OutOfBounds 2
-abbrev pub stored_number : Stored → ℕ
-stored_number Stored.Done = 0
-stored_number Stored.NotAligned = 1
-stored_number Stored.OutOfBounds = 2
+-- the answers in the order of storage.rs: done 0, NotAligned 1, OutOfBounds 2
+abbrev pub error_number : FlashError → ℕ
+error_number NotAligned = 1
+error_number OutOfBounds = 2
 
-abbrev pub leaves : Stored → List ℕ → Cells
-leaves s f = record { answer = stored_number s; cells = f }
+abbrev pub stored_number : Result ⊤ FlashError → ℕ
+stored_number (Ok done) = 0
+stored_number (Err e) = error_number e
+
+abbrev pub leaves : Result ⊤ FlashError → List ℕ → Cells
+leaves r f = record { answer = stored_number r; cells = f }
+
+abbrev pub stored : List ℕ → Cells
+stored f = record { answer = 0; cells = f }
+
+abbrev pub refused : FlashError → List ℕ → Cells
+refused e f = record { answer = error_number e; cells = f }
 
 -- whether a number is no multiple of the page (01, Commands, Write)
 abbrev pub unaligned : ℕ → ℕ → Bool
@@ -42,13 +52,13 @@ unaligned page at = not (eqb (at % page) 0)
 -- a page write of storage.rs: from the start of a page, at most a page, and within the flash; a refusal changes no cell
 unfoldable pub page_written : ℕ → List ℕ → ℕ → List ℕ → Cells
 page_written page f at d =
-    if unaligned page at || ltb page (length d) then leaves Stored.NotAligned f else
-    if ltb (length f) (at + length d) then leaves Stored.OutOfBounds f else
-    leaves Stored.Done (written f at d)
+    if unaligned page at || ltb page (length d) then refused NotAligned f else
+    if ltb (length f) (at + length d) then refused OutOfBounds f else
+    stored (written f at d)
 
 -- an erase of storage.rs, of the cells from..to: whole pages within the flash; nothing where from is not below to
 unfoldable pub pages_erased : ℕ → List ℕ → ℕ → ℕ → Cells
 pages_erased page f from to =
-    if unaligned page from || unaligned page to then leaves Stored.NotAligned f else
-    if ltb (length f) to then leaves Stored.OutOfBounds f else
-    leaves Stored.Done (erased f from (to - from))
+    if unaligned page from || unaligned page to then refused NotAligned f else
+    if ltb (length f) to then refused OutOfBounds f else
+    stored (erased f from (to - from))

@@ -14,9 +14,9 @@ pub const NONE_PENDING: u32 = 0xFFFF_FFFF;
 // A page under way.
 pub type Page = [u8; PAGE_SIZE];
 
+// Why the storage refused a write or an erase: it then changes no cell.
 #[derive(Clone, Copy, Debug, PartialEq, Eq)]
-pub enum Stored {
-    Done,
+pub enum FlashError {
     NotAligned,
     OutOfBounds,
 }
@@ -41,29 +41,29 @@ fn blank(flash: &mut [u8], from: usize, to: usize)
 }
 
 // At most a page, from the start of a page.
-pub fn write(flash: &mut [u8], offset: usize, bytes: &[u8]) -> Stored
+pub fn write(flash: &mut [u8], offset: usize, bytes: &[u8]) -> Result<(), FlashError>
     ensures { leaves result flash.new ≡ page_written 64 flash.old offset bytes.now }
 {
     if offset % PAGE_SIZE != 0 {
-        return Stored::NotAligned;
+        return Err(FlashError::NotAligned);
     }
     let n = bytes.len();
     if PAGE_SIZE < n {
-        return Stored::NotAligned;
+        return Err(FlashError::NotAligned);
     }
     // offset + n itself may not fit a usize
     if flash.len() < n {
-        return Stored::OutOfBounds;
+        return Err(FlashError::OutOfBounds);
     }
     if flash.len() - n < offset {
-        return Stored::OutOfBounds;
+        return Err(FlashError::OutOfBounds);
     }
     program(flash, offset, bytes);
-    Stored::Done
+    Ok(())
 }
 
 // The same of the first n bytes: no part can be taken of an array that a struct holds or that is lent.
-pub fn write_part(flash: &mut [u8], offset: usize, bytes: &[u8], n: usize) -> Stored
+pub fn write_part(flash: &mut [u8], offset: usize, bytes: &[u8], n: usize) -> Result<(), FlashError>
     ensures { leaves result flash.new ≡ page_written 64 flash.old offset (take n bytes.now) }
 {
     let part = first(bytes, n);
@@ -71,18 +71,18 @@ pub fn write_part(flash: &mut [u8], offset: usize, bytes: &[u8], n: usize) -> St
 }
 
 // Whole pages.
-pub fn erase(flash: &mut [u8], from: usize, to: usize) -> Stored
+pub fn erase(flash: &mut [u8], from: usize, to: usize) -> Result<(), FlashError>
     ensures { leaves result flash.new ≡ pages_erased 64 flash.old from to }
 {
     if from % PAGE_SIZE != 0 {
-        return Stored::NotAligned;
+        return Err(FlashError::NotAligned);
     }
     if to % PAGE_SIZE != 0 {
-        return Stored::NotAligned;
+        return Err(FlashError::NotAligned);
     }
     if flash.len() < to {
-        return Stored::OutOfBounds;
+        return Err(FlashError::OutOfBounds);
     }
     blank(flash, from, to);
-    Stored::Done
+    Ok(())
 }

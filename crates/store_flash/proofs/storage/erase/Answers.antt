@@ -1,7 +1,6 @@
 -- Each answer is the case of the definition that the tests before it lead to.
 use mathlib.Core.Path.{ap, sym, ◌∙◌}
-use Rattle.store_flash.specs.declared.storage.Stored.{Stored}
-use Rattle.store_flash.specs.Flash.{leaves}
+use Rattle.store_flash.specs.Flash.{stored}
 use Rattle.store_flash.proofs.Answers.{erase-unaligned, erase_unaligned_end, erase_out, erase-all}
 use Rattle.store_flash.proofs.storage.erase.Goals as goal
 
@@ -16,4 +15,4 @@ returns-then-flash-to c = sym (erase_out 64 _ _ _ c.if-from-ne0.false c.if-to-ne
 
 pub returns : goal.returns
 returns c =
-    ap (leaves Stored.Done) c.blank.ensures ∙ sym (erase-all 64 _ _ _ c.if-from-ne0.false c.if-to-ne0.false c.if-flash-to.false)
+    ap stored c.blank.ensures ∙ sym (erase-all 64 _ _ _ c.if-from-ne0.false c.if-to-ne0.false c.if-flash-to.false)

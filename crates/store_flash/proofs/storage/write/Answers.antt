@@ -1,7 +1,6 @@
 -- Each answer is the case of the definition that the tests before it lead to.
 use mathlib.Core.Path.{ap, sym, ◌∙◌}
-use Rattle.store_flash.specs.declared.storage.Stored.{Stored}
-use Rattle.store_flash.specs.Flash.{leaves}
+use Rattle.store_flash.specs.Flash.{stored}
 use Rattle.store_flash.proofs.Answers.{write-unaligned, write_long, write_out, write-all}
 use native.Mathlib.Omega.{arith}
 use Rattle.store_flash.proofs.storage.write.Goals as goal
@@ -20,4 +19,4 @@ returns-then-flash-n-2 c = sym (write_out 64 _ _ _ c.if-offset-ne0.false c.if-n-
 
 pub returns : goal.returns
 returns c =
-    ap (leaves Stored.Done) c.program.ensures ∙ sym (write-all 64 _ _ _ c.if-offset-ne0.false c.if-n-gt-PAGE_SIZE.false (omega arith))
+    ap stored c.program.ensures ∙ sym (write-all 64 _ _ _ c.if-offset-ne0.false c.if-n-gt-PAGE_SIZE.false (omega arith))
