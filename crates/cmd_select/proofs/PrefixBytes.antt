@@ -14,7 +14,7 @@ use lib.ListN.{length, get_or, take, drop}
 use lib.Seq.{paste, drop-paste, get_or-take, get_or-drop, take-length, take_all}
 use lib.Bits.{bit_and, bit_or, bit_xor, and_mask, xor_mod, xor_self, xor_add_and, or_add_and, and_le_l, and_le_r}
 use Rattle.laws.proofs.Upto.{every}
-use Rattle.cmd_select.specs.declared.Selected.TheVariants.{Yes, No}
+use Rattle.std.specs.Prelude.{Some, None}
 use Rattle.cmd_select.specs.Select.{seed_of, bit_count_of, prefix_of, agree, matches, slot_of, copied, select_of, choice_of}
 use Rattle.cmd_select.proofs.PrefixBits.{lt_or_ge}
 
@@ -144,11 +144,11 @@ last u f i e = rw (e, take-length u)
 
 -- the answers
 module _ (u f g : List ℕ) (at : g ≡ copied u f) where
-  pub yes : (w : ℕ) → true ≡ matches (bit_count_of f) u (prefix_of f) → w ≡ slot_of (seed_of f) u → choice_of (Yes w) g ≡ select_of u f
+  pub yes : (w : ℕ) → true ≡ matches (bit_count_of f) u (prefix_of f) → w ≡ slot_of (seed_of f) u → choice_of (Some w) g ≡ select_of u f
   unfolding select_of
   yes w m e = rw (← m, at, e)
 
-  pub no : false ≡ matches (bit_count_of f) u (prefix_of f) → choice_of No g ≡ select_of u f
+  pub no : false ≡ matches (bit_count_of f) u (prefix_of f) → choice_of None g ≡ select_of u f
   unfolding select_of
   no m = rw (← m, at)
 

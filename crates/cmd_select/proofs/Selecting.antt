@@ -9,8 +9,7 @@ use lib.Dec.{eqb}
 use lib.ListN.{length, get_or, take, drop, length-append, length-drop}
 use lib.Seq.{length-take-le, take_at, drop_at, get_or-take, get_or-drop, ext_get_or}
 use Rattle.laws.proofs.Bools.{and_both}
-use Rattle.cmd_select.specs.declared.Selected.{Selected}
-use Rattle.cmd_select.specs.declared.Selected.TheVariants.{Yes, No}
+use Rattle.std.specs.Prelude.{Option, Some, None}
 use Rattle.cmd_select.specs.Select.{seed_of, bit_count_of, prefix_of, bit_at, agree, matches, slot_of, copied, Choice, select_of, choice_of}
 use Rattle.cmd_select.proofs.PrefixBits.{every_agree, matches_every, every_matches}
 use Rattle.cmd_select.proofs.PrefixBytes.{run}
@@ -62,14 +61,14 @@ module _ (id f : List ℕ) (fits : 10 + length id ≤ length f) where
 
 -- what each answer of the code says, from its contract
 module _ (id f g : List ℕ) where
-  pub told_yes : (w : ℕ) → choice_of (Yes w) g ≡ select_of id f →
+  pub told_yes : (w : ℕ) → choice_of (Some w) g ≡ select_of id f →
       (matches (bit_count_of f) id (prefix_of f) ≡ true) × (w ≡ slot_of (seed_of f) id) × (g ≡ copied id f)
   unfolding select_of
   told_yes w e =
       let m : matches (bit_count_of f) id (prefix_of f) ≡ true = sym (ap (λ (c : Choice). c.match) e) in
       (m, rw m at (ap (λ (c : Choice). c.wait) e), ap (λ (c : Choice). c.bytes) e)
 
-  pub told_no : choice_of No g ≡ select_of id f → (matches (bit_count_of f) id (prefix_of f) ≡ false) × (g ≡ copied id f)
+  pub told_no : choice_of None g ≡ select_of id f → (matches (bit_count_of f) id (prefix_of f) ≡ false) × (g ≡ copied id f)
   unfolding select_of
   told_no e = (sym (ap (λ (c : Choice). c.match) e), ap (λ (c : Choice). c.bytes) e)
 
@@ -116,12 +115,12 @@ unfolding select_of
 only_one_selected a b f e ha hb n ma mb = only_one a b (prefix_of f) e ha hb (rw n at ma) (rw n at mb)
 
 -- the definition determines the answer and the frame: two results that it allows coincide
-pub one_result : (r s : Selected) (f g : List ℕ) → choice_of r f ≡ choice_of s g → (r ≡ s) × (f ≡ g)
+pub one_result : (r s : Option ℕ) (f g : List ℕ) → choice_of r f ≡ choice_of s g → (r ≡ s) × (f ≡ g)
 one_result r s f g e = go r s (ap (λ (c : Choice). c.match) e) (ap (λ (c : Choice). c.wait) e) (ap (λ (c : Choice). c.bytes) e)
   where
-    go : (r s : Selected) → (choice_of r f).match ≡ (choice_of s g).match → (choice_of r f).wait ≡ (choice_of s g).wait →
+    go : (r s : Option ℕ) → (choice_of r f).match ≡ (choice_of s g).match → (choice_of r f).wait ≡ (choice_of s g).wait →
         (choice_of r f).bytes ≡ (choice_of s g).bytes → (r ≡ s) × (f ≡ g)
-    go (Yes v) (Yes w) m n b = (ap Yes n, b)
-    go (Yes v) No m n b = (cc, cc)
-    go No (Yes w) m n b = (cc, cc)
-    go No No m n b = (refl, b)
+    go (Some v) (Some w) m n b = (ap Some n, b)
+    go (Some v) None m n b = (cc, cc)
+    go None (Some w) m n b = (cc, cc)
+    go None None m n b = (refl, b)

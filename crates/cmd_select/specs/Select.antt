@@ -1,9 +1,7 @@
 -- The command Select (01, Commands), of an id, a list of bytes, and the 64 bytes of a frame.
-use Rattle.std.specs.Prelude.{ℕ, zero, suc, ◌+◌, ◌*◌, ◌/◌, ◌%◌, ◌^◌, Bool, true, false, ◌&&◌, List, ◌++◌, eqb, leb, length, get_or, take, drop}
+use Rattle.std.specs.Prelude.{ℕ, zero, suc, ◌+◌, ◌*◌, ◌/◌, ◌%◌, ◌^◌, Bool, true, false, ◌&&◌, List, ◌++◌, eqb, leb, length, get_or, take, drop, Option, Some, None}
 use Rattle.laws.specs.Pick.{pick}
 use Rattle.wire_numbers.specs.Crc.{crc_of}
-use Rattle.cmd_select.specs.declared.Selected.{Selected}
-use Rattle.cmd_select.specs.declared.Selected.TheVariants.{Yes, No}
 
 -- seed, bit count and prefix, in the data area as it stands, also past a short frame's data; of the prefix as much as the longest id has bytes (01,
 -- Commands, Select; Frame bytes, the data area)
@@ -54,7 +52,7 @@ select_of id f =
       bytes = copied id f;
     }
 
--- each case of the code's answer, with the frame as it left it
-abbrev pub choice_of : Selected → List ℕ → Choice
-choice_of (Yes w) f = record { match = true; wait = w; bytes = f }
-choice_of No f = record { match = false; wait = 0; bytes = f }
+-- each case of the code's answer, the wait of a match, with the frame as it left it
+abbrev pub choice_of : Option ℕ → List ℕ → Choice
+choice_of (Some w) f = record { match = true; wait = w; bytes = f }
+choice_of None f = record { match = false; wait = 0; bytes = f }

@@ -11,15 +11,6 @@ use wire_numbers::crc;
 // Largest unique id, in bytes.
 pub const MAX_UID_LEN: usize = 16;
 
-// What a Select says.
-#[derive(Clone, Copy)]
-pub enum Selected {
-    // The device is selected and replies with its id, after a wait of so many byte-times.
-    Yes { wait: u8 },
-    // It is deselected, and silent.
-    No,
-}
-
 // How many of the bits still to compare lie in the next byte.
 fn at_most_8(rem: u32) -> u32
     ensures { result + (rem - 8) ≡ rem }
@@ -78,18 +69,16 @@ fn seed_of(f: &[u8]) -> u8
     f[10]
 }
 
-// The same of an id that is as long as its slice.
-fn select_uid(uid: &[u8], f: &mut FrameBytes) -> Selected
+// The wait before the reply of an id that matches, in byte-times.
+fn select_uid(uid: &[u8], f: &mut FrameBytes) -> Option<u8>
     requires { length uid.now ≤ 16 }
     ensures { choice_of result f.new ≡ select_of uid.now f.old }
 {
     let seed = seed_of(f);
     if pass(uid, f) {
-        return Selected::Yes {
-            wait: slot(seed, uid),
-        };
+        return Some(slot(seed, uid));
     }
-    Selected::No
+    None
 }
 
 // How many bytes of the 16 are the id.
@@ -100,8 +89,9 @@ fn at_most_16(n: usize) -> usize
 }
 
 // Handles `Select`: the data area holds seed, bit count, prefix, as it stands, and the id is copied over it, match or not. The id is the first
-// `len` bytes of `id`, all 16 if `len` is above 16. A length of 0, the unaddressed device's, never gets here; of no id at all a count of 0 matches.
-pub fn select(id: [u8; 16], len: usize, f: &mut FrameBytes) -> Selected
+// `len` bytes of `id`, all 16 if `len` is above 16. A match selects the device, which replies with its id after a wait of so many byte-times; without one it is
+// deselected, and silent. A length of 0, the unaddressed device's, never gets here; of no id at all a count of 0 matches.
+pub fn select(id: [u8; 16], len: usize, f: &mut FrameBytes) -> Option<u8>
     ensures { choice_of result f.new ≡ select_of (take len id) f.old }
 {
     let n = at_most_16(len);

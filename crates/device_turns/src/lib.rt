@@ -9,7 +9,6 @@ ghost use Rattle.cmd_select.specs.Select.{select_of};
 ghost use Rattle.device_turns.specs.declared.Turn.{Turn};
 ghost use Rattle.device_turns.specs.Turns.{why_number, turned, chosen, damaged, asked, turn_of};
 
-use cmd_select::Selected;
 use wire_frames::frame::{FrameBytes, Kind};
 
 // Why a device keeps silent once a frame has ended.
@@ -74,14 +73,13 @@ fn replies(on: bool) -> Turn
 fn select(id: [u8; 16], id_len: usize, f: &mut FrameBytes) -> Turn
     ensures { turned result f.new ≡ chosen (select_of (take id_len id) f.old) }
 {
-    let choice = cmd_select::select(id, id_len, f);
-    match choice {
-        Selected::Yes { wait } => Turn::Reply {
+    match cmd_select::select(id, id_len, f) {
+        Some(wait) => Turn::Reply {
             chosen: true,
             selected: true,
-            wait: wait,
+            wait,
         },
-        Selected::No => Turn::Silent {
+        None => Turn::Silent {
             why: Silence::SelectWithoutMatch,
             selected: false,
         },
