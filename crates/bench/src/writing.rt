@@ -1,7 +1,7 @@
 // A request that the desk writes into the room lent.
 use crate::module::Bench;
 use crate::{module, numbers, show};
-use desk_requests::{Request, Written, write_request};
+use desk_requests::{Request, RequestError, write_request};
 use std::io;
 use std::io::Write;
 use store_flash::cells::{byte_at, first};
@@ -22,33 +22,24 @@ fn request_of(bytes: &[u8]) -> Request {
 }
 
 // The call, on what is lent.
-fn put(bench: &Bench, bytes: &[u8], room: &mut [u8]) -> Written {
+fn put(bench: &Bench, bytes: &[u8], room: &mut [u8]) -> Result<usize, RequestError> {
     let n = module::lent(bench.room, room);
     write_request(request_of(bytes), module::after(bytes, 6), &mut room[..n])
 }
 
-// How many bytes the request has: none where it was refused.
-fn len_of(said: &Written) -> usize {
+fn told(out: &mut impl Write, said: Result<usize, RequestError>, room: &[u8]) -> io::Result<()> {
     match said {
-        Written::Done { len } => *len,
-        Written::NoRoom => 0,
-        Written::TooLarge => 0,
-    }
-}
-
-fn told(out: &mut impl Write, said: Written, room: &[u8]) -> io::Result<()> {
-    match said {
-        Written::Done { len } => {
+        Ok(len) => {
             show::decimal(out, 0)?;
             show::next_decimal(out, len as u64)?;
             show::end(out, first(room, len))
         }
-        Written::NoRoom => show::text(out, b"14\n"),
-        Written::TooLarge => show::text(out, b"20\n"),
+        Err(RequestError::NoRoom) => show::text(out, b"14\n"),
+        Err(RequestError::TooLarge) => show::text(out, b"20\n"),
     }
 }
 
-// The request and its line; how many bytes it has.
+// The request and its line; how many bytes it has, none where it was refused.
 pub(crate) fn write(
     bench: &Bench,
     bytes: &[u8],
@@ -56,10 +47,9 @@ pub(crate) fn write(
     out: &mut impl Write,
 ) -> io::Result<usize> {
     let said = put(bench, bytes, room);
-    let len = len_of(&said);
     show::text(out, b"wrote ")?;
     told(out, said, room)?;
-    Ok(len)
+    Ok(said.unwrap_or(0))
 }
 
 // The line `w`.

@@ -9,7 +9,8 @@ use Rattle.laws.specs.Pick.{pick}
 use Rattle.laws.specs.Low.{low_bytes}
 use Rattle.laws.specs.Over.{over}
 use Rattle.wire_numbers.specs.declared.Cmd.{Cmd}
-use Rattle.desk_requests.specs.declared.Written.{Written}
+use Rattle.std.specs.Prelude.{Result}
+use Rattle.desk_requests.specs.declared.RequestError.{RequestError}
 use Rattle.desk_requests.specs.Requests.{asks, Wrote, written_number, written_to, request_of}
 use Rattle.desk_replies.specs.declared.Head.{Head}
 use Rattle.desk_replies.specs.declared.Contents.{Contents}
@@ -19,7 +20,7 @@ use Rattle.c_desk.specs.Desk.{asked, c_asked, after_hear, bytes_of, heard_bytes,
 use Rattle.c_desk.specs.Inner.{heard_number, heard_head, heard_kind, laid_bytes}
 
 -- a request, of its number
-pub asked_of : (a : Written) (room : List ℕ) (w : Wrote) (n : ℕ) → n ≡ written_number a → written_to a room ≡ w → asked n room ≡ c_asked w
+pub asked_of : (a : Result ℕ RequestError) (room : List ℕ) (w : Wrote) (n : ℕ) → n ≡ written_number a → written_to a room ≡ w → asked n room ≡ c_asked w
 asked_of a room w n e k = ap (λ (x : ℕ). asked x room) e ∙ ap c_asked k
 
 -- a Write's flags, of a byte

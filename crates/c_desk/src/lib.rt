@@ -14,7 +14,7 @@ ghost use Rattle.c_desk.specs.Desk.{blank_head, asked, after_hear, c_asked, unhe
 ghost use Rattle.c_desk.specs.Inner.{heard_number, heard_head, contents_kind, heard_kind, laid_bytes};
 
 use desk_replies::{Contents, Head, Heard};
-use desk_requests::Written;
+use desk_requests::RequestError;
 use wire_frames::frame;
 use wire_numbers::{ResetFlags, le};
 
@@ -29,13 +29,13 @@ fn lay_over(bytes: &[u8], room: &mut [u8])
     room[..bytes.len()].copy_from_slice(bytes);
 }
 
-fn number(w: Written) -> u8
+fn number(w: Result<usize, RequestError>) -> u8
     ensures { result ≡ written_number w }
 {
     match w {
-        Written::Done { len } => 0,
-        Written::NoRoom => 14,
-        Written::TooLarge => 20,
+        Ok(_) => 0,
+        Err(RequestError::NoRoom) => 14,
+        Err(RequestError::TooLarge) => 20,
     }
 }
 

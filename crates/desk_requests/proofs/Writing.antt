@@ -16,16 +16,6 @@ use Rattle.wire_sender.specs.Sent.{wire, sealed, Sent, sent, send_of}
 use Rattle.desk_requests.specs.declared.Request.{Request}
 use Rattle.desk_requests.specs.Requests.{fields_of, frame_of, wrote, too_large, request_of, head_of}
 
--- the two parts of the data against the capacity, without their sum
-pub own_large : (own rest addr : ℕ) → 52 < own → true ≡ (ltb 52 (own + rest) || leb (256 ^ 3) addr)
-own_large own rest addr h = simp (lt-ltb 52 (own + rest) (omega arith))
-
-pub rest_large : (own rest addr : ℕ) → 52 - own < rest → true ≡ (ltb 52 (own + rest) || leb (256 ^ 3) addr)
-rest_large own rest addr h = simp (lt-ltb 52 (own + rest) (omega arith))
-
-pub data_small : (own rest addr : ℕ) → own ≤ 52 → rest ≤ 52 - own → leb (256 ^ 3) addr ≡ (ltb 52 (own + rest) || leb (256 ^ 3) addr)
-data_small own rest addr h k = simp (le-ltb 52 (own + rest) (omega arith))
-
 -- one part more, right after what is laid
 pub laid_on : (p s z : List ℕ) (at : ℕ) → at ≡ length p → paste (over p z) at s (length s) ≡ over (p ++ s) z
 laid_on p s z at e =

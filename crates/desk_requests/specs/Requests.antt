@@ -1,12 +1,12 @@
 -- A request as the desk writes it (02, E1; 01, Frame bytes). `cap` is the payload capacity.
-use Rattle.std.specs.Prelude.{ℕ, ◌+◌, ◌^◌, Bool, ◌||◌, List, ◌∷◌, ◌++◌, length, ltb, leb, if◌then◌else◌}
+use Rattle.std.specs.Prelude.{ℕ, ◌+◌, ◌^◌, Bool, ◌||◌, List, ◌∷◌, ◌++◌, length, ltb, leb, if◌then◌else◌, Result, Ok, Err}
 use Rattle.laws.specs.Low.{low_bytes}
 use Rattle.laws.specs.Over.{over}
 use Rattle.wire_numbers.specs.Names.{cmd_number}
 use Rattle.wire_numbers.specs.declared.Cmd.{Cmd}
 use Rattle.wire_sender.specs.Sent.{fields, frame}
 use Rattle.desk_requests.specs.declared.Request.{Request}
-use Rattle.desk_requests.specs.declared.Written.{Written}
+use Rattle.desk_requests.specs.declared.RequestError.{RequestError}
 
 -- a request of its command, flags and address
 abbrev pub asks : Cmd → ℕ → ℕ → Request
@@ -29,18 +29,17 @@ abbrev pub wrote : ℕ → ℕ → List ℕ → Wrote
 wrote number len room = record { number = number; len = len; room = room }
 
 -- each case of the code's answer by its number (02, E1: 14 and 20), and how many bytes were written
-abbrev pub written_number : Written → ℕ
-written_number (Written.Done len) = 0
-written_number Written.NoRoom = 14
-written_number Written.TooLarge = 20
+abbrev pub written_number : Result ℕ RequestError → ℕ
+written_number (Ok len) = 0
+written_number (Err RequestError.NoRoom) = 14
+written_number (Err RequestError.TooLarge) = 20
 
-abbrev pub written_len : Written → ℕ
-written_len (Written.Done len) = len
-written_len Written.NoRoom = 0
-written_len Written.TooLarge = 0
+abbrev pub written_len : Result ℕ RequestError → ℕ
+written_len (Ok len) = len
+written_len (Err e) = 0
 
 -- with the room as it stands afterwards
-abbrev pub written_to : Written → List ℕ → Wrote
+abbrev pub written_to : Result ℕ RequestError → List ℕ → Wrote
 written_to a room = wrote (written_number a) (written_len a) room
 
 -- data above the capacity, or an address above 24 bits (02, E1, refusals)

@@ -15,18 +15,16 @@ use wire_frames::sync::Sync;
 use wire_numbers::{Cmd, ResetFlags, WriteFlags, le};
 
 // A request but for its data: the command, and the header's numbers that are the desk's to choose.
-#[derive(Clone, Copy)]
+#[derive(Clone, Copy, Debug, PartialEq, Eq)]
 pub struct Request {
     pub cmd: Cmd,
     pub flags: u8,
     pub addr: u32,
 }
 
-// A request was written, and has so many bytes; or the room is below a full frame; or the data are above the capacity or the address above 24 bits. Nothing is
-// written then.
-#[derive(Clone, Copy)]
-pub enum Written {
-    Done { len: usize },
+// Why nothing is written: the room is below a full frame; or the data are above the capacity or the address above 24 bits.
+#[derive(Clone, Copy, Debug, PartialEq, Eq)]
+pub enum RequestError {
     NoRoom,
     TooLarge,
 }
@@ -64,13 +62,7 @@ fn put(f: &mut [u8], at: usize, src: &[u8])
 fn too_large(own: usize, rest: usize, addr: u32) -> bool
     ensures { result ≡ (ltb 52 (own + rest) || leb (256 ^ 3) addr) }
 {
-    if DEFAULT_PAYLOAD < own {
-        return true;
-    }
-    if DEFAULT_PAYLOAD - own < rest {
-        return true;
-    }
-    0x100_0000 <= addr
+    DEFAULT_PAYLOAD < own || DEFAULT_PAYLOAD - own < rest || 0x100_0000 <= addr
 }
 
 // A frame's bytes with the request in them, its data in two parts.
@@ -88,38 +80,47 @@ fn framed(request: Request, own: &[u8], rest: &[u8]) -> FrameBytes
 }
 
 // Writes a request whose data are two parts, one after the other.
-fn write_parts(request: Request, own: &[u8], rest: &[u8], room: &mut [u8]) -> Written
+fn write_parts(
+    request: Request,
+    own: &[u8],
+    rest: &[u8],
+    room: &mut [u8],
+) -> Result<usize, RequestError>
     ensures { written_to result room.new ≡ request_of 52 request (own.now ++ rest.now) room.old }
 {
     let large = too_large(own.len(), rest.len(), request.addr);
     if room.len() < FRAME {
-        return Written::NoRoom;
+        return Err(RequestError::NoRoom);
     }
     if large {
-        return Written::TooLarge;
+        return Err(RequestError::TooLarge);
     }
     let mut f = framed(request, own, rest);
-    let len = wire_sender::send(&mut f, room);
-    Written::Done { len: len }
+    Ok(wire_sender::send(&mut f, room))
 }
 
-// Writes any request into a lent room.
-pub fn write_request(request: Request, data: &[u8], room: &mut [u8]) -> Written
+// Writes any request into a lent room, and answers how many bytes it has.
+pub fn write_request(request: Request, data: &[u8], room: &mut [u8]) -> Result<usize, RequestError>
     ensures { written_to result room.new ≡ request_of 52 request «data».now room.old }
 {
     write_parts(request, &data[..0], data, room)
 }
 
 // A request with no data.
-fn bare(request: Request, room: &mut [u8]) -> Written
+fn bare(request: Request, room: &mut [u8]) -> Result<usize, RequestError>
     ensures { written_to result room.new ≡ request_of 52 request [] room.old }
 {
-    let none = [0u8; 1];
-    write_request(request, &none[..0], room)
+    write_request(request, b"", room)
 }
 
 // A request whose data begin with two bytes of its own.
-fn led(request: Request, first: u8, second: u8, rest: &[u8], room: &mut [u8]) -> Written
+fn led(
+    request: Request,
+    first: u8,
+    second: u8,
+    rest: &[u8],
+    room: &mut [u8],
+) -> Result<usize, RequestError>
     ensures { written_to result room.new ≡ request_of 52 request (first ∷ second ∷ rest.now) room.old }
 {
     let own = [first, second];
@@ -129,14 +130,11 @@ fn led(request: Request, first: u8, second: u8, rest: &[u8], room: &mut [u8]) ->
 fn write_flags(flush: bool) -> u8
     ensures { result ≡ pick flush (2 ^ 7) 0 }
 {
-    if flush {
-        return WriteFlags::FLUSH;
-    }
-    0
+    if flush { WriteFlags::FLUSH } else { 0 }
 }
 
 // The six requests, each of its own numbers (01, Commands). Info has none.
-pub fn info(room: &mut [u8]) -> Written
+pub fn info(room: &mut [u8]) -> Result<usize, RequestError>
     ensures { written_to result room.new ≡ request_of 52 (asks Cmd.Info 0 0) [] room.old }
 {
     bare(
@@ -150,34 +148,33 @@ pub fn info(room: &mut [u8]) -> Written
 }
 
 // So many bytes, from an address on.
-pub fn erase(addr: u32, count: u16, room: &mut [u8]) -> Written
+pub fn erase(addr: u32, count: u16, room: &mut [u8]) -> Result<usize, RequestError>
     ensures { written_to result room.new ≡ request_of 52 (asks Cmd.Erase 0 addr) (low_bytes 2 count) room.old }
 {
     let c = le::bytes16(count);
-    let none = [0u8; 1];
     let request = Request {
         cmd: Cmd::Erase,
         flags: 0,
-        addr: addr,
+        addr,
     };
-    led(request, c[0], c[1], &none[..0], room)
+    led(request, c[0], c[1], b"", room)
 }
 
 // Data, to an address; flushed, the run ends with them.
-pub fn write(addr: u32, flush: bool, data: &[u8], room: &mut [u8]) -> Written
+pub fn write(addr: u32, flush: bool, data: &[u8], room: &mut [u8]) -> Result<usize, RequestError>
     ensures { written_to result room.new ≡
         request_of 52 (asks Cmd.Write (pick flush (2 ^ 7) 0) addr) «data».now room.old }
 {
     let request = Request {
         cmd: Cmd::Write,
         flags: write_flags(flush),
-        addr: addr,
+        addr,
     };
     write_request(request, data, room)
 }
 
 // The image of so many bytes.
-pub fn verify(size: u32, room: &mut [u8]) -> Written
+pub fn verify(size: u32, room: &mut [u8]) -> Result<usize, RequestError>
     ensures { written_to result room.new ≡ request_of 52 (asks Cmd.Verify 0 size) [] room.old }
 {
     bare(
@@ -191,21 +188,21 @@ pub fn verify(size: u32, room: &mut [u8]) -> Written
 }
 
 // What of the address counts, its flags say.
-pub fn reset(flags: ResetFlags, addr: u32, room: &mut [u8]) -> Written
+pub fn reset(flags: ResetFlags, addr: u32, room: &mut [u8]) -> Result<usize, RequestError>
     ensures { written_to result room.new ≡ request_of 52 (asks Cmd.Reset flags.bits addr) [] room.old }
 {
     bare(
         Request {
             cmd: Cmd::Reset,
             flags: flags.bits,
-            addr: addr,
+            addr,
         },
         room,
     )
 }
 
 // Whose id begins with so many bits of the prefix; the seed picks the wait before a reply.
-pub fn select(seed: u8, count: u8, prefix: &[u8], room: &mut [u8]) -> Written
+pub fn select(seed: u8, count: u8, prefix: &[u8], room: &mut [u8]) -> Result<usize, RequestError>
     ensures { written_to result room.new ≡
         request_of 52 (asks Cmd.Select 0 0) (seed ∷ count ∷ prefix.now) room.old }
 {

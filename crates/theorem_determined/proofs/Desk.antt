@@ -4,7 +4,8 @@ use mathlib.Core.Path.{◌≡◌, refl, ap, sym, ◌∙◌}
 use mathlib.Core.List.{List}
 use lib.Dec.{eqb}
 use Rattle.laws.specs.Pick.{pick}
-use Rattle.desk_requests.specs.declared.Written.{Written}
+use Rattle.std.specs.Prelude.{Result, Ok, Err}
+use Rattle.desk_requests.specs.declared.RequestError.{RequestError}
 use Rattle.desk_requests.specs.Requests.{Wrote, written_to}
 use Rattle.desk_replies.specs.declared.Contents.{Contents}
 use Rattle.desk_replies.specs.declared.Heard.{Heard}
@@ -19,15 +20,15 @@ use Rattle.c_desk.proofs as c_desk
 use Rattle.c_desk.specs.contracts as c_desk_contracts
 
 -- what a request's writing answered, of what is told of it
-abbrev written_from : Wrote → Written
-written_from w = pick (eqb w.number 0) (Written.Done w.len) (pick (eqb w.number 14) Written.NoRoom Written.TooLarge)
+abbrev written_from : Wrote → Result ℕ RequestError
+written_from w = pick (eqb w.number 0) (Ok w.len) (pick (eqb w.number 14) (Err RequestError.NoRoom) (Err RequestError.TooLarge))
 
-written_back : (a : Written) (room : List ℕ) → written_from (written_to a room) ≡ a
-written_back (Written.Done len) room = refl
-written_back Written.NoRoom room = refl
-written_back Written.TooLarge room = refl
+written_back : (a : Result ℕ RequestError) (room : List ℕ) → written_from (written_to a room) ≡ a
+written_back (Ok len) room = refl
+written_back (Err RequestError.NoRoom) room = refl
+written_back (Err RequestError.TooLarge) room = refl
 
-written_apart : (a b : Written) (x y : List ℕ) → written_to a x ≡ written_to b y → a ≡ b
+written_apart : (a b : Result ℕ RequestError) (x y : List ℕ) → written_to a x ≡ written_to b y → a ≡ b
 written_apart a b x y e = sym (written_back a x) ∙ ap written_from e ∙ written_back b y
 
 -- what was heard

@@ -30,4 +30,4 @@ returns c =
     let t = parts_tested 52 a.request.addr a.own.now a.rest.now _ _ c.too_large-large.ensures c.if-large.false in
     done_of 52 a.request (a.own.now ++ a.rest.now) a.room.now c.if-room-lt-FRAME.false (data_fits 52 _ a.request.addr t) (omega arith)
     (replicate {A = ℕ} 64 0) t _ _ _ _
-    c.framed-f.ensures c.send-len.ensures
+    c.framed-f.ensures c.send.ensures
