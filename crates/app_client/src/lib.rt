@@ -9,16 +9,8 @@ ghost use Rattle.app_client.specs.Feed.{taken_of, app_fed_of};
 ghost use Rattle.app_client.specs.Inner.{passed_to, fed_to};
 
 use app_state::{AppSetup, AppState};
-use device_feed::{Passed, is_going, kind_of, refused};
+use device_feed::{Fed, Passed, is_going, kind_of, refused};
 use device_replies::Answer;
-
-// The state afterwards, how many bytes of the piece were taken, and what the call says.
-#[derive(Clone, Copy)]
-pub struct AppFed {
-    pub state: AppState,
-    pub taken: usize,
-    pub answer: Answer,
-}
 
 // A call that is not refused.
 fn pass(
@@ -78,13 +70,13 @@ pub fn app_feed(
     bytes: &[u8],
     meta: &mut [u8],
     reply: &mut [u8],
-) -> AppFed
+) -> Fed<AppState>
     ensures { fed_to result meta.new reply.new ≡
         app_fed_of 52 64 setup (record { state = state; meta = meta.old }) bytes.now reply.old }
 {
     let mut after = state;
     let r = app_feed_in(setup, &mut after, bytes, meta, reply);
-    AppFed {
+    Fed {
         state: after,
         taken: r.taken,
         answer: r.answer,

@@ -9,7 +9,7 @@ use Rattle.device_feed.specs.declared.Passed.{Passed}
 use Rattle.device_feed.specs.Feed.{Called}
 
 -- what a call answered, with what was lent as it stands afterwards: of the call by value, and of the one that the state is lent to
-abbrev pub fed_to : Fed → List ℕ → List ℕ → List ℕ → Called
+abbrev pub fed_to : Fed State → List ℕ → List ℕ → List ℕ → Called
 fed_to r flash meta room =
     record { told = told_of r.answer; taken = r.taken; left = record { state = r.state; flash = flash; meta = meta }; room = room }
 

@@ -15,10 +15,10 @@ use device_state::refusal::Refusal;
 use device_state::{Setup, State, refusal};
 use wire_frames::frame::{Kind, Stop};
 
-// The state afterwards, how many bytes of the piece were taken, and what the call says.
+// The state afterwards, a bootloader's or an app's; how many bytes of the piece were taken, and what the call says.
 #[derive(Clone, Copy)]
-pub struct Fed {
-    pub state: State,
+pub struct Fed<S> {
+    pub state: S,
     pub taken: usize,
     pub answer: Answer,
 }
@@ -135,7 +135,7 @@ pub fn feed(
     flash: &mut [u8],
     meta: &mut [u8],
     reply: &mut [u8],
-) -> Fed
+) -> Fed<State>
     ensures { fed_to result flash.new meta.new reply.new ≡
         fed_of 52 64 setup (record { state = state; flash = flash.old; meta = meta.old }) bytes.now reply.old }
 {
