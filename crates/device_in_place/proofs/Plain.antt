@@ -1,4 +1,5 @@
 -- A byte that is only stored: where it stands, and that storing it is what reading it gives.
+use Rattle.std.specs.Prelude.{None}
 use Prim.Native.Nat.{ℕ, ◌+◌, ◌≤◌, ◌<◌}
 use mathlib.Core.Path.{◌≡◌, refl, sym, ◌∙◌}
 use mathlib.Core.List.{List, [], ◌∷◌}
@@ -10,7 +11,6 @@ use lib.ListN.{length, set}
 use lib.Dec.{ltb, leb, eqb}
 use Rattle.laws.proofs.Bools.{and_both, or_either}
 use Rattle.laws.proofs.Lists.{over-set}
-use Rattle.wire_frames.specs.declared.frame.End.TheVariants.{Going}
 use Rattle.wire_frames.specs.Fields.{len_of}
 use Rattle.wire_frames.specs.Reading.{verdict_of}
 use Rattle.wire_frames.specs.Stored.{ready, goes, well_of, Well, After, quiet, part_of}
@@ -85,10 +85,10 @@ module _ (cap : ℕ) (device : Bool) (f : List ℕ) (g : ℕ) where
     well : Well cap device f g
     well = rw still at (part_start cap device f g e).well
 
-    after : After cap device f g (b ∷ []) (set f g b) (g + 1) Going
+    after : After cap device f g (b ∷ []) (set f g b) (g + 1) None
     after = go (or_either (ltb g 9) past (and_both (leb 2 g) (ltb g 9 || past) p).1)
       where
-        go : (ltb g 9 ≡ true) ⊎ (past ≡ true) → After cap device f g (b ∷ []) (set f g b) (g + 1) Going
+        go : (ltb g 9 ≡ true) ⊎ (past ≡ true) → After cap device f g (b ∷ []) (set f g b) (g + 1) None
         go (inl u) = header_step cap device f g well b two (ltb-true _ _ u)
         go (inr u) =
             let v = and_both (ltb 9 g) (ltb g (10 + len_of f)) u in

@@ -1,5 +1,4 @@
 pub mod Pick
 pub mod Fold
 pub mod Low
-pub mod Lookup
 pub mod Over

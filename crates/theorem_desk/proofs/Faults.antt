@@ -1,4 +1,5 @@
 -- The desk overhears no frame, so that one which ended otherwise than good has one of three statuses.
+use Rattle.std.specs.Prelude.{Option, Some, None}
 use Prim.Native.Nat.{ℕ, ◌+◌}
 use mathlib.Core.Path.{◌≡◌, refl}
 use mathlib.Core.Bool.{Bool, true, false, ◌||◌}
@@ -11,8 +12,6 @@ use Rattle.laws.specs.Pick.{pick}
 use Rattle.laws.specs.Low.{low_first}
 use Rattle.wire_numbers.specs.Crc.{crc_of}
 use Rattle.wire_frames.specs.declared.frame.Kind.{Kind}
-use Rattle.wire_frames.specs.declared.frame.End.{End}
-use Rattle.wire_frames.specs.declared.frame.End.TheVariants.{Going, Over}
 use Rattle.wire_frames.specs.Fields.{cmd_of, status_of, len_of, data_of}
 use Rattle.wire_frames.specs.Reading.{Hunt, Open, Sync, hunt, overhears, verdict_of, checked, Outcome, Begun, Ended, judged, started, from_hunt, read_frame}
 use Rattle.wire_frames.specs.Stored.{ended, begun, ready, store, well_of, read_of}
@@ -24,9 +23,9 @@ use Rattle.theorem_desk.specs.Desk.{FaultsKnown}
 abbrev Heeded : Kind → Type 0
 Heeded k = k ≡ Kind.Overheard → ⊥
 
-abbrev HeededEnd : End → Type 0
-HeededEnd Going = ◌≡◌ {A = ℕ} 0 0
-HeededEnd (Over k) = Heeded k
+abbrev HeededEnd : Option Kind → Type 0
+HeededEnd None = ◌≡◌ {A = ℕ} 0 0
+HeededEnd (Some k) = Heeded k
 
 abbrev HeededOutcome : Outcome → Type 0
 HeededOutcome (Begun q) = ◌≡◌ {A = ℕ} 0 0
@@ -37,7 +36,7 @@ module _ (cap : ℕ) where
   unfolding verdict_of overhears
   heeded_header f = go (ltb 5 (cmd_of f) || ltb 7 (status_of f)) (ltb cap (len_of f))
     where
-      go : (a b : Bool) → HeededEnd (pick a (Over Kind.Unsupported) (pick b (Over Kind.PayloadOverflow) Going))
+      go : (a b : Bool) → HeededEnd (pick a (Some Kind.Unsupported) (pick b (Some Kind.PayloadOverflow) None))
       go true b = λ e. let z : ◌≡◌ {A = ℕ} 0 1 = cc in omega arith
       go false true = λ e. let z : ◌≡◌ {A = ℕ} 0 1 = cc in omega arith
       go false false = refl
@@ -50,9 +49,9 @@ module _ (cap : ℕ) where
       go true e = let z : ◌≡◌ {A = ℕ} 0 1 = cc in omega arith
       go false e = let z : ◌≡◌ {A = ℕ} 0 1 = cc in omega arith
 
-  heeded_judged : (v : End) (f : List ℕ) → HeededEnd v → HeededOutcome (judged false v f)
-  heeded_judged (Over k) f h = h
-  heeded_judged Going f h = go (ltb (length f) (12 + len_of f))
+  heeded_judged : (v : Option Kind) (f : List ℕ) → HeededEnd v → HeededOutcome (judged false v f)
+  heeded_judged (Some k) f h = h
+  heeded_judged None f h = go (ltb (length f) (12 + len_of f))
     where
       go : (t : Bool) → HeededOutcome (pick t (Begun f) (Ended (checked false f) (take (12 + len_of f) f) (drop (12 + len_of f) f)))
       go true = refl

@@ -1,4 +1,5 @@
 -- What is sent is read, whatever follows: a frame with its CRC laid, put to a reader that waits.
+use Rattle.std.specs.Prelude.{None}
 use Prim.Native.Nat.{ℕ, suc, ◌+◌, ◌-◌, ◌/◌, ◌%◌, ◌≤◌, ◌<◌}
 use mathlib.Core.Path.{◌≡◌, refl, ap, sym, ◌∙◌}
 use mathlib.Core.List.{List, [], ◌∷◌, ◌++◌, append_assoc}
@@ -13,7 +14,6 @@ use Rattle.wire_numbers.specs.Crc.{crc_of}
 use Rattle.wire_numbers.proofs.Serial.{crc_small}
 use Rattle.wire_numbers.proofs.Bytes.{read_back}
 use Rattle.wire_frames.specs.declared.frame.Kind.{Kind}
-use Rattle.wire_frames.specs.declared.frame.End.TheVariants.{Going}
 use Rattle.wire_frames.specs.Fields.{cmd_of, status_of, len_of, data_of}
 use Rattle.wire_frames.specs.Reading.{hunt, overhears, verdict_of, checked, started, Ended, read_frame}
 use Rattle.wire_frames.specs.Stored.{begun, ready, store, ended, well_of, read_of}
@@ -72,7 +72,7 @@ module _ (cap : ℕ) (device : Bool) (f m : List ℕ) (n : ℕ) (s : f ≡ 0xAA 
   wire_size : len_of (wire n f) ≡ n
   wire_size = size_append cap device body crc (omega (arith, long)) ∙ size_take cap device (10 + n) f (omega arith) (omega arith) ∙ sym e
 
-  passes : verdict_of cap device (wire n f) ≡ Going
+  passes : verdict_of cap device (wire n f) ≡ None
   passes =
       verdict_append cap device body crc (omega (arith, long)) ∙ verdict_take cap device (10 + n) f (omega arith) (omega arith) ∙
       sym (verdict_fields cap device f n e) ∙

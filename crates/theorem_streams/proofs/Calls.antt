@@ -1,4 +1,5 @@
 -- One call by the rules, in a good world: what it leaves, and how the uncut stream goes on from there.
+use Rattle.std.specs.Prelude.{None}
 use Prim.Native.Nat.{ℕ, suc, ◌+◌, ◌-◌, ◌≤◌, ◌<◌}
 use mathlib.Core.Path.{◌≡◌, refl, sym, ap, ◌∙◌}
 use mathlib.Core.Bool.{true}
@@ -7,7 +8,6 @@ use native.Mathlib.Omega.{arith}
 use lib.ListN.{length, take, drop, replicate, length-append, take-append-drop}
 use lib.Seq.{drop_at, length-take-le}
 use Rattle.wire_frames.specs.declared.frame.Kind.{Kind}
-use Rattle.wire_frames.specs.declared.frame.End.TheVariants.{Going}
 use Rattle.wire_frames.specs.Reading.{Outcome, Begun, Ended, read_frame}
 use Rattle.wire_frames.specs.Stored.{quiet, ended, Read, begun, store, ready, out_of, After}
 use Rattle.wire_frames.proofs.Cut.{cut_ended}
@@ -60,7 +60,7 @@ module _ {W : Type 0} (r : Rules W) (Good : W → Type 0) (o : Owed r Good) (w :
     pub quiet_is : (room : List ℕ) → 12 + cap ≤ length room → call_of r w x room ≡ read_by r w x room (Begun q)
     quiet_is room h = call_is x room h ∙ ap (read_by r w x room) e
 
-    on : After cap true (ready f) g x f' (length q) Going
+    on : After cap true (ready f) g x f' (length q) None
     on = after_begun cap true (ready f) g begins.well x q (rw begins.same e)
 
     pub quiet_good : Good quieted

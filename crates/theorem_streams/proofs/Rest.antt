@@ -1,4 +1,5 @@
 -- What a reading leaves: a part of what was read, and shorter.
+use Rattle.std.specs.Prelude.{Option, Some, None}
 use Prim.Native.Nat.{ℕ, ◌+◌, ◌-◌, ◌≤◌, ◌<◌}
 use mathlib.Core.Path.{◌≡◌, refl, sym, ap, ◌∙◌}
 use mathlib.Core.Bool.{Bool, true, false}
@@ -12,8 +13,6 @@ use lib.Dec.{eqb, leb, ltb}
 use Rattle.laws.specs.Pick.{pick}
 use Rattle.wire_frames.specs.declared.frame.Kind.{Kind}
 use Rattle.wire_frames.specs.Fields.{len_of}
-use Rattle.wire_frames.specs.declared.frame.End.{End}
-use Rattle.wire_frames.specs.declared.frame.End.TheVariants.{Going, Over}
 use Rattle.wire_frames.specs.Reading.{Hunt, Open, Sync, hunt, verdict_of, checked, judged, started, from_hunt, Begun, Ended, read_frame}
 use Rattle.wire_frames.specs.Stored.{begun}
 use Rattle.wire_frames.proofs.Cut.{hunt-sync, hunt_open, size_append, verdict_append, started-begun}
@@ -102,7 +101,7 @@ module _ (cap : ℕ) (device : Bool) where
   -- a frame ends past its header, and past its data and CRC where the header passed
   record Past (h r : List ℕ) : Type 0 where
     header : 10 + length r ≤ length h
-    whole : verdict_of cap device h ≡ Going → 12 + len_of h + length r ≤ length h
+    whole : verdict_of cap device h ≡ None → 12 + len_of h + length r ≤ length h
 
   past_of : (h : List ℕ) (k : Kind) (q r : List ℕ) → started cap device h ≡ Ended k q r → Past h r
   unfolding started
@@ -117,30 +116,30 @@ module _ (cap : ℕ) (device : Bool) where
           let d : length r ≡ length h - (12 + len_of h) = ap length (sym u) ∙ length-drop (12 + len_of h) h in
           record { header = omega arith; whole = λ v. omega arith }
 
-      ten : 10 ≤ length h → (v : End) → verdict_of cap device h ≡ v → judged device v h ≡ Ended k q r → Past h r
-      ten n (Over j) v x =
+      ten : 10 ≤ length h → (v : Option Kind) → verdict_of cap device h ≡ v → judged device v h ≡ Ended k q r → Past h r
+      ten n (Some j) v x =
           let u : drop 10 h ≡ r = cc in
           let d : length r ≡ length h - 10 = ap length (sym u) ∙ length-drop 10 h in
           record { header = omega arith; whole = λ w. let z : ◌≡◌ {A = ℕ} 0 1 = cc in absurd (omega arith) }
-      ten n Going v x = last (ltb (length h) (12 + len_of h)) refl n x
+      ten n None v x = last (ltb (length h) (12 + len_of h)) refl n x
 
       go : (t : Bool) → ltb (length h) 10 ≡ t → Past h r
       go true w = let y : Begun h ≡ Ended k q r = simp w at e in let z : ◌≡◌ {A = ℕ} 0 1 = cc in absurd (omega arith)
       go false w = ten (ltb-false _ _ w) (verdict_of cap device h) refl (simp w at e)
 
   -- a frame begun whose header has come: it passed, and there is more to come
-  open_of : (f q : List ℕ) → started cap device f ≡ Begun q → 10 ≤ length f → (verdict_of cap device f ≡ Going) × (length f < 12 + len_of f)
+  open_of : (f q : List ℕ) → started cap device f ≡ Begun q → 10 ≤ length f → (verdict_of cap device f ≡ None) × (length f < 12 + len_of f)
   unfolding started
   open_of f q e h = on (verdict_of cap device f) refl (simp (le-ltb (length f) 10 h) at e)
     where
-      last : verdict_of cap device f ≡ Going → (t : Bool) → ltb (length f) (12 + len_of f) ≡ t → (k : Kind) (g r : List ℕ) →
-          pick t (Begun f) (Ended k g r) ≡ Begun q → (verdict_of cap device f ≡ Going) × (length f < 12 + len_of f)
+      last : verdict_of cap device f ≡ None → (t : Bool) → ltb (length f) (12 + len_of f) ≡ t → (k : Kind) (g r : List ℕ) →
+          pick t (Begun f) (Ended k g r) ≡ Begun q → (verdict_of cap device f ≡ None) × (length f < 12 + len_of f)
       last v true w k g r x = (v, ltb-true _ _ w)
       last v false w k g r x = let z : ◌≡◌ {A = ℕ} 0 1 = cc in absurd (omega arith)
 
-      on : (v : End) → verdict_of cap device f ≡ v → judged device v f ≡ Begun q → (verdict_of cap device f ≡ Going) × (length f < 12 + len_of f)
-      on (Over k) w x = let z : ◌≡◌ {A = ℕ} 0 1 = cc in absurd (omega arith)
-      on Going w x = last w (ltb (length f) (12 + len_of f)) refl (checked device f) (take (12 + len_of f) f) (drop (12 + len_of f) f) x
+      on : (v : Option Kind) → verdict_of cap device f ≡ v → judged device v f ≡ Begun q → (verdict_of cap device f ≡ None) × (length f < 12 + len_of f)
+      on (Some k) w x = let z : ◌≡◌ {A = ℕ} 0 1 = cc in absurd (omega arith)
+      on None w x = last w (ltb (length f) (12 + len_of f)) refl (checked device f) (take (12 + len_of f) f) (drop (12 + len_of f) f) x
 
   started_less : (f q x : List ℕ) → started cap device f ≡ Begun q → (k : Kind) (g r : List ℕ) → started cap device (f ++ x) ≡ Ended k g r →
       length r < length x

@@ -1,4 +1,5 @@
 -- What the frame holds once a whole frame has come: 12 + cap bytes that begin AA 55.
+use Rattle.std.specs.Prelude.{Option, Some, None}
 use Prim.Native.Nat.{ℕ, suc, ◌+◌, ◌≤◌}
 use mathlib.Core.Path.{◌≡◌, refl, sym, ap, ◌∙◌}
 use mathlib.Core.Bool.{Bool, true, false}
@@ -11,8 +12,6 @@ use lib.Seq.{length-take-le}
 use lib.Dec.{ltb}
 use Rattle.laws.specs.Pick.{pick}
 use Rattle.wire_frames.specs.declared.frame.Kind.{Kind}
-use Rattle.wire_frames.specs.declared.frame.End.{End}
-use Rattle.wire_frames.specs.declared.frame.End.TheVariants.{Going, Over}
 use Rattle.wire_frames.specs.Fields.{len_of}
 use Rattle.wire_frames.specs.Reading.{Hunt, Open, Sync, hunt, verdict_of, checked, judged, started, from_hunt, Begun, Ended, read_frame}
 use Rattle.wire_frames.specs.Stored.{store, ready}
@@ -41,12 +40,12 @@ module _ (cap : ℕ) (device : Bool) where
           let n : len_of q ≡ len_of f = ap len_of (sym u) ∙ size_take cap device (12 + len_of f) f (omega arith) h in
           omega (arith, length-take (10 + len_of q) q)
 
-      ten : 10 ≤ length f → (v : End) → verdict_of cap device f ≡ v → judged device v f ≡ Ended k q r → length (take (10 + len_of q) q) ≤ 10 + cap
-      ten h (Over j) v x =
+      ten : 10 ≤ length f → (v : Option Kind) → verdict_of cap device f ≡ v → judged device v f ≡ Ended k q r → length (take (10 + len_of q) q) ≤ 10 + cap
+      ten h (Some j) v x =
           let u : take 10 f ≡ q = cc in
           let n : length q ≤ 10 = rw (← u) (omega (arith, length-take 10 f)) in
           omega (arith, length-take (10 + len_of q) q)
-      ten h Going v x = last h (going_size cap device f v) (ltb (length f) (12 + len_of f)) x
+      ten h None v x = last h (going_size cap device f v) (ltb (length f) (12 + len_of f)) x
 
       go : (t : Bool) → ltb (length f) 10 ≡ t → length (take (10 + len_of q) q) ≤ 10 + cap
       go true w = let y : Begun f ≡ Ended k q r = simp w at e in let z : ◌≡◌ {A = ℕ} 0 1 = cc in absurd (omega arith)

@@ -1,4 +1,5 @@
 -- There and back: a state that is written is read again as it was, and bytes that hold a state are written again as they were.
+use Rattle.std.specs.Prelude.{Option, Some, None}
 use Prim.Native.Nat.{ℕ, ◌+◌, ◌%◌, ◌^◌, ◌<◌, ◌≤◌}
 use mathlib.Core.Path.{◌≡◌, refl, ap, sym, ◌∙◌}
 use mathlib.Core.Bool.{Bool, true, false, ◌&&◌, ◌||◌}
@@ -14,10 +15,9 @@ use Rattle.laws.specs.Pick.{pick}
 use Rattle.laws.specs.Low.{low_first, low_bytes}
 use Rattle.laws.proofs.Low.{low_read, low_write}
 use Rattle.laws.proofs.Bools.{and_both, or_either}
-use Rattle.wire_frames.specs.declared.frame.End.{End}
-use Rattle.wire_frames.specs.declared.frame.End.TheVariants.{Going, Over}
 use Rattle.wire_frames.specs.Fields.{len_of}
 use Rattle.wire_frames.specs.Reading.{verdict_of}
+use Rattle.wire_frames.specs.declared.frame.Kind.{Kind}
 use Rattle.wire_frames.specs.Stored.{goes, well_of}
 use Rattle.wire_frames.proofs.Reading.{going_size}
 use Rattle.device_state.specs.declared.Setup.{Setup}
@@ -137,9 +137,9 @@ module _ (l : List ℕ) (h : holds_state 52 64 l ≡ true) (byte : (i : ℕ) →
       numbers_written ∙ ap (λ (v : List ℕ). part 0 64 l ++ (part 64 64 l ++ v)) three ∙ ap (λ (v : List ℕ). part 0 64 l ++ v) two ∙ take-append-drop 64 l
 
 -- a well-formed state has counts that fit a byte
-goes_on : (v : End) → goes v ≡ true → v ≡ Going
-goes_on Going e = refl
-goes_on (Over k) e = cc
+goes_on : (v : Option Kind) → goes v ≡ true → v ≡ None
+goes_on None e = refl
+goes_on (Some k) e = cc
 
 got_small : (f : List ℕ) (g : ℕ) → well_of 52 true f g ≡ true → g < 64
 unfolding well_of

@@ -1,4 +1,5 @@
 -- A piece may be cut anywhere: one call on l ++ m is a call on l and, where that goes on, a call on m.
+use Rattle.std.specs.Prelude.{Option, Some, None}
 use Prim.Native.Nat.{ℕ, ◌+◌, ◌-◌, ◌≤◌, ◌<◌}
 use mathlib.Core.Path.{◌≡◌, refl, ap, sym, ◌∙◌}
 use mathlib.Core.List.{List, [], ◌∷◌, ◌++◌, append_assoc}
@@ -9,8 +10,6 @@ use borrow.Author.Tests.{ltb-true, ltb-false, lt-ltb, leb-false, eq-eqb}
 use lib.ListN.{length, get_or, take, drop, length-append}
 use lib.Dec.{ltb, leb, eqb}
 use Rattle.wire_frames.specs.declared.frame.Kind.{Kind}
-use Rattle.wire_frames.specs.declared.frame.End.{End}
-use Rattle.wire_frames.specs.declared.frame.End.TheVariants.{Going, Over}
 use Rattle.laws.specs.Pick.{pick}
 use Rattle.wire_frames.specs.Fields.{len_of}
 use Rattle.wire_frames.specs.Reading.{Hunt, Open, Sync, hunt, verdict_of, checked, judged, started, from_hunt, Outcome, Begun, Ended, read_frame}
@@ -33,14 +32,14 @@ module _ (cap : ℕ) (device : Bool) where
   unfolding started
   open_of f q e = go (ltb (length f) 10) refl
     where
-      last : 10 ≤ length f → verdict_of cap device f ≡ Going → (t : Bool) → ltb (length f) (12 + len_of f) ≡ t → (k : Kind) (g r : List ℕ) →
+      last : 10 ≤ length f → verdict_of cap device f ≡ None → (t : Bool) → ltb (length f) (12 + len_of f) ≡ t → (k : Kind) (g r : List ℕ) →
           pick t (Begun f) (Ended k g r) ≡ Begun q → reading.Past cap device f
       last h v true w k g r x = record { long = h; passed = v; short = ltb-true _ _ w }
       last h v false w k g r x = let z : ◌≡◌ {A = ℕ} 0 1 = cc in absurd (omega arith)
 
-      on : 10 ≤ length f → (v : End) → verdict_of cap device f ≡ v → judged device v f ≡ Begun q → reading.Past cap device f
-      on h (Over k) w x = let z : ◌≡◌ {A = ℕ} 0 1 = cc in absurd (omega arith)
-      on h Going w x = last h w (ltb (length f) (12 + len_of f)) refl (checked device f) (take (12 + len_of f) f) (drop (12 + len_of f) f) x
+      on : 10 ≤ length f → (v : Option Kind) → verdict_of cap device f ≡ v → judged device v f ≡ Begun q → reading.Past cap device f
+      on h (Some k) w x = let z : ◌≡◌ {A = ℕ} 0 1 = cc in absurd (omega arith)
+      on h None w x = last h w (ltb (length f) (12 + len_of f)) refl (checked device f) (take (12 + len_of f) f) (drop (12 + len_of f) f) x
 
       go : (t : Bool) → ltb (length f) 10 ≡ t → reading.Open cap device f
       go true w = inl (ltb-true _ _ w)
@@ -80,12 +79,12 @@ module _ (cap : ℕ) (device : Bool) where
     unmoved q h e = store_short cap f w.whole q (omega arith) (omega arith) ∙ rw e at (over-take f (length q) (omega (arith, w.whole)))
 
     -- a whole piece does what one byte does
-    pub after_begun : (l q : List ℕ) → read_frame cap device (begun cap f g ++ l) ≡ Begun q → After cap device f g l (store cap f q) (length q) Going
+    pub after_begun : (l q : List ℕ) → read_frame cap device (begun cap f g ++ l) ≡ Begun q → After cap device f g l (store cap f q) (length q) None
     after_begun l q e = go (own_of (begun cap f g ++ l) q e) (λ m. ap (read_frame cap device) (sym (append_assoc (begun cap f g) l m)) ∙
         cut_begun cap device (begun cap f g ++ l) m q e)
       where
         go : {p : List ℕ} → Own cap device p → ((m : List ℕ) → read_frame cap device (begun cap f g ++ (l ++ m)) ≡ read_frame cap device (p ++ m)) →
-            After cap device f g l (store cap f p) (length p) Going
+            After cap device f g l (store cap f p) (length p) None
         go none c =
             rw (unmoved [] (omega arith) refl)
             (well_low cap device f g w 0 (omega arith), λ m n. rw (c m, begun_0 cap device f g w) refl)

@@ -1,4 +1,5 @@
 -- A stream may be cut anywhere.
+use Rattle.std.specs.Prelude.{Option, Some, None}
 use Prim.Native.Nat.{ℕ, ◌+◌, ◌≤◌, ◌<◌}
 use mathlib.Core.Path.{◌≡◌, refl, sym, ◌∙◌}
 use mathlib.Core.List.{List, [], ◌∷◌, ◌++◌, append-nil}
@@ -9,8 +10,6 @@ use lib.ListN.{length, get_or, take, drop, length-append, get_or-append}
 use lib.Seq.{take-append-le, drop-append-le}
 use lib.Dec.{ltb, eqb}
 use Rattle.wire_frames.specs.declared.frame.Kind.{Kind}
-use Rattle.wire_frames.specs.declared.frame.End.{End}
-use Rattle.wire_frames.specs.declared.frame.End.TheVariants.{Going, Over}
 use Rattle.laws.specs.Pick.{pick}
 use Rattle.wire_frames.specs.Fields.{len_of}
 use Rattle.wire_frames.specs.Reading.{Hunt, Open, Sync, hunt, verdict_of, checked, Begun, Ended, judged, started, from_hunt, read_frame}
@@ -62,11 +61,11 @@ module _ (cap : ℕ) (device : Bool) where
           get_or-append f x 0 (11 + len_of f) (omega arith),
         )
 
-    judged_ended : (v : End) (k : Kind) (g r : List ℕ) → judged device v f ≡ Ended k g r → judged device v (f ++ x) ≡ Ended k g (r ++ x)
-    judged_ended (Over j) k g r e = simp (take-append-le 10 f x h, drop-append-le 10 f x h) (cc)
-    judged_ended Going k g r e = go (ltb (length f) (12 + len_of f)) refl
+    judged_ended : (v : Option Kind) (k : Kind) (g r : List ℕ) → judged device v f ≡ Ended k g r → judged device v (f ++ x) ≡ Ended k g (r ++ x)
+    judged_ended (Some j) k g r e = simp (take-append-le 10 f x h, drop-append-le 10 f x h) (cc)
+    judged_ended None k g r e = go (ltb (length f) (12 + len_of f)) refl
       where
-        go : (t : Bool) → ltb (length f) (12 + len_of f) ≡ t → judged device Going (f ++ x) ≡ Ended k g (r ++ x)
+        go : (t : Bool) → ltb (length f) (12 + len_of f) ≡ t → judged device None (f ++ x) ≡ Ended k g (r ++ x)
         go true w = let e' : Begun f ≡ Ended k g r = simp w at e in cc
         go false w =
             let l : 12 + len_of f ≤ length f = ltb-false _ _ w in
@@ -99,9 +98,9 @@ module _ (cap : ℕ) (device : Bool) where
       two true g r k w = cc
       two false g r k w = cc
 
-      on : (v : End) → judged device v f ≡ Begun q → q ≡ f
-      on (Over j) w = cc
-      on Going w = two (ltb (length f) (12 + len_of f)) _ _ _ w
+      on : (v : Option Kind) → judged device v f ≡ Begun q → q ≡ f
+      on (Some j) w = cc
+      on None w = two (ltb (length f) (12 + len_of f)) _ _ _ w
 
       go : (t : Bool) → ltb (length f) 10 ≡ t → q ≡ f
       go true w = let e' : Begun f ≡ Begun q = simp w at e in cc

@@ -1,4 +1,5 @@
 -- Reading from the sync on, where the header has been read or not.
+use Rattle.std.specs.Prelude.{Option, Some, None}
 use Prim.Native.Nat.{ℕ, ◌+◌, ◌-◌, ◌≤◌, ◌<◌}
 use mathlib.Core.Path.{◌≡◌, refl, sym, ◌∙◌}
 use mathlib.Core.List.{List, [], ◌∷◌, ◌++◌}
@@ -10,8 +11,6 @@ use lib.ListN.{length, get_or, take, drop, length-take, take-append-drop, get_or
 use lib.Seq.{take_at, get_or_at, get_or-take, get_or-append-add, length-take-le, take-append-add, drop-append-add}
 use lib.Dec.{ltb, eqb}
 use Rattle.wire_frames.specs.declared.frame.Kind.{Kind}
-use Rattle.wire_frames.specs.declared.frame.End.{End}
-use Rattle.wire_frames.specs.declared.frame.End.TheVariants.{Going, Over}
 use Rattle.laws.specs.Pick.{pick}
 use Rattle.laws.specs.Low.{low_first}
 use Rattle.wire_numbers.specs.Crc.{crc_of}
@@ -30,14 +29,14 @@ module _ (cap : ℕ) (device : Bool) where
 
   -- steps 1 and 2, case by case
   module _ (cmd status len : ℕ) where
-    pub header_strange : ltb 5 cmd || ltb 7 status ≡ true → header_of cap device cmd status len ≡ Over Kind.Unsupported
+    pub header_strange : ltb 5 cmd || ltb 7 status ≡ true → header_of cap device cmd status len ≡ Some Kind.Unsupported
     header_strange e = simp e
 
-    pub header-going : ltb 5 cmd || ltb 7 status ≡ false → len ≤ cap → header_of cap device cmd status len ≡ Going
+    pub header-going : ltb 5 cmd || ltb 7 status ≡ false → len ≤ cap → header_of cap device cmd status len ≡ None
     header-going e h = simp (e, le-ltb cap len h)
 
     pub header_long : ltb 5 cmd || ltb 7 status ≡ false → cap < len → (t : Bool) → overhears device status ≡ t →
-        header_of cap device cmd status len ≡ Over (pick t Kind.Overheard Kind.PayloadOverflow)
+        header_of cap device cmd status len ≡ Some (pick t Kind.Overheard Kind.PayloadOverflow)
     header_long e h t o = simp (e, lt-ltb cap len h, o)
 
   -- a header by its fields
@@ -46,11 +45,11 @@ module _ (cap : ℕ) (device : Bool) where
   verdict_fields f n e = rw e refl
 
   -- a header that passed has a length of at most the capacity
-  pub going_size : (f : List ℕ) → verdict_of cap device f ≡ Going → len_of f ≤ cap
+  pub going_size : (f : List ℕ) → verdict_of cap device f ≡ None → len_of f ≤ cap
   unfolding verdict_of
   going_size f e = go (ltb cap (len_of f)) refl
     where
-      no : (t : Bool) (k : Kind) → pick t (Over Kind.Unsupported) (Over k) ≡ Going → ◌≡◌ {A = ℕ} 0 1
+      no : (t : Bool) (k : Kind) → pick t (Some Kind.Unsupported) (Some k) ≡ None → ◌≡◌ {A = ℕ} 0 1
       no true k w = cc
       no false k w = cc
 
@@ -66,7 +65,7 @@ module _ (cap : ℕ) (device : Bool) where
   -- past a header that passed, and short of the frame's end
   pub record Past (f : List ℕ) : Type 0 where
     pub long : 10 ≤ length f
-    pub passed : verdict_of cap device f ≡ Going
+    pub passed : verdict_of cap device f ≡ None
     pub short : length f < 12 + len_of f
 
   -- a frame begun: short of its header, or past it
@@ -100,13 +99,13 @@ module _ (cap : ℕ) (device : Bool) where
       same : (a b : List ℕ) (j : Kind) → Ended j a b ≡ Ended k g r → Split f x a b → Split f x g r
       same a b j w y = let u : a ≡ g = cc in let v : b ≡ r = cc in rw (← u, ← v) y
 
-      ten : (v : End) → verdict_of cap device (f ++ x) ≡ v → Open f → judged device v (f ++ x) ≡ Ended k g r → Split f x g r
-      ten (Over j) v (inl w) y = same _ _ j y (split_at f x 10 (omega arith))
-      ten (Over j) v (inr p) y =
-          let u : verdict_of cap device (f ++ x) ≡ Going = verdict_append cap device f x p.long ∙ p.passed in
+      ten : (v : Option Kind) → verdict_of cap device (f ++ x) ≡ v → Open f → judged device v (f ++ x) ≡ Ended k g r → Split f x g r
+      ten (Some j) v (inl w) y = same _ _ j y (split_at f x 10 (omega arith))
+      ten (Some j) v (inr p) y =
+          let u : verdict_of cap device (f ++ x) ≡ None = verdict_append cap device f x p.long ∙ p.passed in
           let z : ◌≡◌ {A = ℕ} 0 1 = cc in
           absurd (omega arith)
-      ten Going v o y = last (ltb (length (f ++ x)) (12 + len_of (f ++ x))) y
+      ten None v o y = last (ltb (length (f ++ x)) (12 + len_of (f ++ x))) y
         where
           l : length f ≤ 12 + len_of (f ++ x)
           l = ⊎_elim (λ (u : length f < 10). omega arith) (λ (p : Past f). simp (size_append cap device f x p.long) (omega arith)) o

@@ -1,4 +1,5 @@
 -- A frame that passes the test is well formed once AA 55 is laid, and its bytes begun are the same.
+use Rattle.std.specs.Prelude.{Option, Some, None}
 use Prim.Native.Nat.{ℕ, ◌+◌, ◌≤◌, ◌<◌}
 use mathlib.Core.Path.{◌≡◌, refl, sym, ◌∙◌}
 use mathlib.Core.List.{List, [], ◌∷◌}
@@ -9,10 +10,9 @@ use borrow.Author.Tests.{ltb-true, leb-true, eqb-true, eqb-false}
 use lib.ListN.{length, take, set}
 use lib.Dec.{ltb, leb, eqb}
 use Rattle.laws.proofs.Bools.{and_both, or_either}
-use Rattle.wire_frames.specs.declared.frame.End.{End}
-use Rattle.wire_frames.specs.declared.frame.End.TheVariants.{Going, Over}
 use Rattle.wire_frames.specs.Fields.{len_of}
 use Rattle.wire_frames.specs.Reading.{verdict_of}
+use Rattle.wire_frames.specs.declared.frame.Kind.{Kind}
 use Rattle.wire_frames.specs.Stored.{begun, ready, goes, well_of, Well}
 use Rattle.wire_frames.proofs.Storing.{begun-part}
 
@@ -30,9 +30,9 @@ module _ (cap : ℕ) (device : Bool) (a b g : ℕ) (m : List ℕ) (whole : lengt
   begun_low : (k : ℕ) → k < 10 → take k (ready f) ≡ take k f → begun cap (ready f) k ≡ begun cap f k
   begun_low k h e = begun-part cap (ready f) k (omega arith) ∙ e ∙ sym (begun-part cap f k (omega arith))
 
-  goes_on : (v : End) → goes v ≡ true → v ≡ Going
-  goes_on Going e = refl
-  goes_on (Over k) e = cc
+  goes_on : (v : Option Kind) → goes v ≡ true → v ≡ None
+  goes_on None e = refl
+  goes_on (Some k) e = cc
 
   pub start : well_of cap device f g ≡ true → Started cap device f g
   unfolding well_of
@@ -49,7 +49,7 @@ module _ (cap : ℕ) (device : Bool) (a b g : ℕ) (m : List ℕ) (whole : lengt
       third r (inl w) = let k : g ≤ 9 = leb-true _ _ w in low (omega arith) (rw r refl)
       third r (inr w) =
           let z = and_both (goes (verdict_of cap device f)) (ltb g (12 + len_of f)) w in
-          let v : verdict_of cap device f ≡ Going = goes_on (verdict_of cap device f) z.0 in
+          let v : verdict_of cap device f ≡ None = goes_on (verdict_of cap device f) z.0 in
           let i : g < 12 + len_of f = ltb-true _ _ z.1 in
           record { well = rw r (record { whole = whole; synced = sym r; going = λ u. v; inside = λ u. i }); same = rw r refl }
 

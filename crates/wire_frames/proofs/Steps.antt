@@ -1,4 +1,5 @@
 -- What more bytes do to a frame begun, phase by phase.
+use Rattle.std.specs.Prelude.{Option, Some, None}
 use Prim.Native.Nat.{ℕ, ◌+◌, ◌-◌, ◌≤◌, ◌<◌}
 use mathlib.Core.Path.{◌≡◌, refl, ap, sym, ◌∙◌}
 use mathlib.Core.List.{List, [], ◌∷◌, ◌++◌, append-nil, append_assoc}
@@ -10,8 +11,6 @@ use lib.ListN.{length, get_or, take, drop, set, length-append, length-drop}
 use lib.Seq.{take_at, drop_at, length-take-le, paste, length_paste_head, drop-cons}
 use lib.Dec.{ltb, leb, eqb}
 use Rattle.wire_frames.specs.declared.frame.Kind.{Kind}
-use Rattle.wire_frames.specs.declared.frame.End.{End}
-use Rattle.wire_frames.specs.declared.frame.End.TheVariants.{Going, Over}
 use Rattle.laws.specs.Pick.{pick}
 use Rattle.wire_frames.specs.Fields.{len_of}
 use Rattle.wire_frames.specs.Reading.{hunt, verdict_of, checked, Begun, Ended, started, from_hunt, read_frame}
@@ -75,12 +74,12 @@ module _ (cap : ℕ) (device : Bool) (f : List ℕ) (g : ℕ) (w : Well cap devi
       go false u false x y z =
           let e : g ≡ 0 = omega (arith, eqb-false g 1 x) in simp (x, z) (rw (e, begun_0) (ap (λ (t : Bool). from_hunt cap device (hunt t l)) z))
 
-  pub hunt_step : (b : ℕ) → g < 2 → After cap device f g (b ∷ []) f (hunted_of g b) Going
+  pub hunt_step : (b : ℕ) → g < 2 → After cap device f g (b ∷ []) f (hunted_of g b) None
   hunt_step b h = (well_low (hunted_of g b) (hunted_small g b), λ l n. ap (out_of cap f n) (hunt_reads b l h))
 
   -- the bytes x make p of the bytes begun, and f' holds p
   more : (x p m f' : List ℕ) (g' : ℕ) → begun cap f g ++ x ≡ p → p ≡ 0xAA ∷ 0x55 ∷ m → length p ≡ g' → Open cap device p → f' ≡ store cap f p →
-      After cap device f g x f' g' Going
+      After cap device f g x f' g' None
   more x p m f' g' e s c o t =
       let k : Held cap device (store cap f p) p = held cap device f w.whole p m s o in
       rw (t, ← c) (
@@ -92,7 +91,7 @@ module _ (cap : ℕ) (device : Bool) (f : List ℕ) (g : ℕ) (w : Well cap devi
 
   -- they end the frame
   done : (x p m f' : List ℕ) (k : Kind) → begun cap f g ++ x ≡ p → p ≡ 0xAA ∷ 0x55 ∷ m → ((l : List ℕ) → started cap device (p ++ l) ≡ Ended k p l) →
-      f' ≡ store cap f p → After cap device f g x f' 0 (Over k)
+      f' ≡ store cap f p → After cap device f g x f' 0 (Some k)
   done x p m f' k e s o t l n =
       let a : begun cap f g ++ (x ++ l) ≡ p ++ l = sym (append_assoc (begun cap f g) x l) ∙ ap (λ (z : List ℕ). z ++ l) e in
       rw (a, t, read_sync cap device p m l s, o l) refl
@@ -103,7 +102,7 @@ module _ (cap : ℕ) (device : Bool) (f : List ℕ) (g : ℕ) (w : Well cap devi
 
     -- header and data
     pub laid : g ≤ 10 + len_of f → g + length x ≤ 10 + cap → Open cap device (take g f ++ x) → g + length x ≤ 10 + len_of (take g f ++ x) →
-        After cap device f g x (over (take g f ++ x) f) (g + length x) Going
+        After cap device f g x (over (take g f ++ x) f) (g + length x) None
     laid i j o k =
         let p : List ℕ = take g f ++ x in
         let z : length f ≡ 12 + cap = w.whole in
@@ -113,8 +112,8 @@ module _ (cap : ℕ) (device : Bool) (f : List ℕ) (g : ℕ) (w : Well cap devi
 
   -- m of the bytes at hand, laid where they belong
   run_turn : (l : List ℕ) (i m : ℕ) → 0 < m → i + m ≤ length l → g + m ≤ 12 + cap →
-      After cap device f g (take m (drop i l)) (over (take g f ++ take m (drop i l)) f) (g + length (take m (drop i l))) Going →
-      Turned cap device f g l i (paste f g (drop i l) m) (g + m) m Going
+      After cap device f g (take m (drop i l)) (over (take g f ++ take m (drop i l)) f) (g + length (take m (drop i l))) None →
+      Turned cap device f g l i (paste f g (drop i l) m) (g + m) m None
   run_turn l i m z a b s =
       let n : length (drop i l) ≡ length l - i = length-drop i l in
       let c : length (take m (drop i l)) ≡ m = length-take-le m (drop i l) (omega arith) in
@@ -122,15 +121,15 @@ module _ (cap : ℕ) (device : Bool) (f : List ℕ) (g : ℕ) (w : Well cap devi
       record { after = rw (c, e) at s; some = z; within = a }
 
   -- the header, but for its last byte
-  header-run : (x : List ℕ) → 2 ≤ g → g + length x ≤ 9 → After cap device f g x (over (take g f ++ x) f) (g + length x) Going
+  header-run : (x : List ℕ) → 2 ≤ g → g + length x ≤ 9 → After cap device f g x (over (take g f ++ x) f) (g + length x) None
   header-run x h i =
       let n : length (take g f ++ x) ≡ g + length x = simp (length-append, length-take-le g f (omega (arith, w.whole))) in
       laid h x (omega arith) (omega arith) (inl (omega arith)) (omega arith)
 
-  pub header_step : (b : ℕ) → 2 ≤ g → g < 9 → After cap device f g (b ∷ []) (set f g b) (g + 1) Going
+  pub header_step : (b : ℕ) → 2 ≤ g → g < 9 → After cap device f g (b ∷ []) (set f g b) (g + 1) None
   header_step b h i = rw (← over-set f g b (omega (arith, w.whole))) (header-run (b ∷ []) h (omega arith))
 
-  header_turn : (l : List ℕ) (i m : ℕ) → 0 < m → i + m ≤ length l → 2 ≤ g → g + m ≤ 9 → Turned cap device f g l i (paste f g (drop i l) m) (g + m) m Going
+  header_turn : (l : List ℕ) (i m : ℕ) → 0 < m → i + m ≤ length l → 2 ≤ g → g + m ≤ 9 → Turned cap device f g l i (paste f g (drop i l) m) (g + m) m None
   header_turn l i m z a h b =
       let n : length (drop i l) ≡ length l - i = length-drop i l in
       let c : length (take m (drop i l)) ≡ m = length-take-le m (drop i l) (omega arith) in
@@ -150,15 +149,15 @@ module _ (cap : ℕ) (device : Bool) (f : List ℕ) (g : ℕ) (w : Well cap devi
     last_verdict : verdict_of cap device (set f g b) ≡ verdict_of cap device last
     last_verdict = rw last-over (verdict_append cap device last (drop (length last) f) (omega (arith, last-length)))
 
-    pub passed_step : verdict_of cap device (set f g b) ≡ Going → After cap device f g (b ∷ []) (set f g b) (g + 1) Going
+    pub passed_step : verdict_of cap device (set f g b) ≡ None → After cap device f g (b ∷ []) (set f g b) (g + 1) None
     passed_step v =
         let o : Past cap device last = record { long = omega (arith, last-length); passed = sym last_verdict ∙ v; short = omega (arith, last-length) } in
         rw last-over (laid (omega arith) (b ∷ []) (omega arith) (omega arith) (inr o) (omega arith))
 
-    pub refused_step : (k : Kind) → verdict_of cap device (set f g b) ≡ Over k → After cap device f g (b ∷ []) (set f g b) 0 (Over k)
+    pub refused_step : (k : Kind) → verdict_of cap device (set f g b) ≡ Some k → After cap device f g (b ∷ []) (set f g b) 0 (Some k)
     unfolding started
     refused_step k v =
-        let u : verdict_of cap device last ≡ Over k = sym last_verdict ∙ v in
+        let u : verdict_of cap device last ≡ Some k = sym last_verdict ∙ v in
         done (b ∷ []) last (take (g - 2) (drop 2 f) ++ (b ∷ [])) (set f g b) k
         (ap (λ (y : List ℕ). y ++ (b ∷ [])) (begun-part cap f g (omega arith)))
         (sync-part (omega arith) (b ∷ []) g (omega arith))
@@ -185,7 +184,7 @@ module _ (cap : ℕ) (device : Bool) (f : List ℕ) (g : ℕ) (w : Well cap devi
     part_size x k i j =
         size_append cap device (take k f) x (omega (arith, part_length k j)) ∙ size_take cap device k f i (omega (arith, w.whole))
 
-    part_verdict : (x : List ℕ) (k : ℕ) → 10 ≤ k → k ≤ 12 + cap → verdict_of cap device (take k f ++ x) ≡ Going
+    part_verdict : (x : List ℕ) (k : ℕ) → 10 ≤ k → k ≤ 12 + cap → verdict_of cap device (take k f ++ x) ≡ None
     part_verdict x k i j =
         verdict_append cap device (take k f) x (omega (arith, part_length k j)) ∙
         verdict_take cap device k f i (omega (arith, w.whole)) ∙
@@ -197,7 +196,7 @@ module _ (cap : ℕ) (device : Bool) (f : List ℕ) (g : ℕ) (w : Well cap devi
         record { long = omega arith; passed = part_verdict x k i j; short = rw (n, part_size x k i j) l }
 
     -- data
-    pub data_step : (x : List ℕ) → g + length x ≤ 10 + len_of f → After cap device f g x (over (take g f ++ x) f) (g + length x) Going
+    pub data_step : (x : List ℕ) → g + length x ≤ 10 + len_of f → After cap device f g x (over (take g f ++ x) f) (g + length x) None
     data_step x l =
         let s : len_of f ≤ cap = small in
         let z : len_of (take g f ++ x) ≡ len_of f = part_size x g h (omega arith) in
@@ -205,7 +204,7 @@ module _ (cap : ℕ) (device : Bool) (f : List ℕ) (g : ℕ) (w : Well cap devi
 
     -- m of the bytes at hand, as many as are wanted or fewer
     data_turn : (l : List ℕ) (i m : ℕ) → 0 < m → i + m ≤ length l → g + m ≤ 10 + len_of f →
-        Turned cap device f g l i (paste f g (drop i l) m) (g + m) m Going
+        Turned cap device f g l i (paste f g (drop i l) m) (g + m) m None
     data_turn l i m z a b =
         let s : len_of f ≤ cap = small in
         let n : length (drop i l) ≡ length l - i = length-drop i l in
@@ -213,7 +212,7 @@ module _ (cap : ℕ) (device : Bool) (f : List ℕ) (g : ℕ) (w : Well cap devi
         run_turn l i m z a (omega arith) (data_step (take m (drop i l)) (omega arith))
 
     -- the CRC's low byte
-    pub low_step : (b : ℕ) → g ≡ 10 + len_of f → After cap device f g (b ∷ []) (set f (10 + cap) b) (g + 1) Going
+    pub low_step : (b : ℕ) → g ≡ 10 + len_of f → After cap device f g (b ∷ []) (set f (10 + cap) b) (g + 1) None
     low_step b e =
         let s : len_of f ≤ cap = small in
         let k : ℕ = 10 + len_of f in
@@ -227,7 +226,7 @@ module _ (cap : ℕ) (device : Bool) (f : List ℕ) (g : ℕ) (w : Well cap devi
 
     -- the CRC's high byte
     pub high_step : (b : ℕ) → g ≡ 11 + len_of f →
-        After cap device f g (b ∷ []) (set f (11 + cap) b) 0 (Over (checked device (take (10 + len_of f) f ++ (get_or f (10 + cap) 0 ∷ b ∷ []))))
+        After cap device f g (b ∷ []) (set f (11 + cap) b) 0 (Some (checked device (take (10 + len_of f) f ++ (get_or f (10 + cap) 0 ∷ b ∷ []))))
     unfolding begun started
     high_step b e =
         let s : len_of f ≤ cap = small in
@@ -236,14 +235,14 @@ module _ (cap : ℕ) (device : Bool) (f : List ℕ) (g : ℕ) (w : Well cap devi
         let p : List ℕ = take k f ++ x in
         let n : length p ≡ 12 + len_of f = simp (length-append, part_length k (omega arith)) (omega arith) in
         let z : len_of p ≡ len_of f = part_size x k (omega arith) (omega arith) in
-        let v : verdict_of cap device p ≡ Going = part_verdict x k (omega arith) (omega arith) in
+        let v : verdict_of cap device p ≡ None = part_verdict x k (omega arith) (omega arith) in
         done (b ∷ []) p (take (k - 2) (drop 2 f) ++ x) (set f (11 + cap) b) (checked device p)
         (simp (lt-leb g (10 + len_of f) (omega arith), append_assoc))
         (sync-part (omega arith) x k (omega arith))
         (λ l.
         let y : length (p ++ l) ≡ 12 + len_of f + length l = length-append p l ∙ ap (λ (i : ℕ). i + length l) n in
         let i : len_of (p ++ l) ≡ len_of f = size_append cap device p l (omega arith) ∙ z in
-        let j : verdict_of cap device (p ++ l) ≡ Going = verdict_append cap device p l (omega arith) ∙ v in
+        let j : verdict_of cap device (p ++ l) ≡ None = verdict_append cap device p l (omega arith) ∙ v in
         let c : checked device (p ++ l) ≡ checked device p = checked-append cap device p l (omega arith) (omega arith) in
         rw (
           le-ltb (length (p ++ l)) 10 (omega arith),
@@ -290,14 +289,14 @@ module _ (cap : ℕ) (device : Bool) (f : List ℕ) (g : ℕ) (w : Well cap devi
       omega (arith, few),
     )
 
-    pub wanted_turn : Turned cap device f g l i (paste f g (drop i l) m) (g + m) m Going
+    pub wanted_turn : Turned cap device f g l i (paste f g (drop i l) m) (g + m) m None
     wanted_turn =
-        side (Turned cap device f g l i (paste f g (drop i l) m) (g + m) m Going)
+        side (Turned cap device f g l i (paste f g (drop i l) m) (g + m) m None)
         (λ h k. header_turn l i m few.0 (omega (arith, few)) h k)
         (λ h k. data_turn h l i m few.0 (omega (arith, few)) k)
 
   -- one byte that is not data
-  pub byte_turn : (l : List ℕ) (i : ℕ) → i < length l → (f' : List ℕ) (g' : ℕ) (end : End) → After cap device f g (get_or l i 0 ∷ []) f' g' end →
+  pub byte_turn : (l : List ℕ) (i : ℕ) → i < length l → (f' : List ℕ) (g' : ℕ) (end : Option Kind) → After cap device f g (get_or l i 0 ∷ []) f' g' end →
       Turned cap device f g l i f' g' 1 end
   byte_turn l i h f' g' end a =
       let e : take 1 (drop i l) ≡ get_or l i 0 ∷ [] = rw (drop-cons l i 0 h) refl in

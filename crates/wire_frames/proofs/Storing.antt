@@ -1,4 +1,5 @@
 -- What the 64 bytes hold once the bytes of a frame are stored in them.
+use Rattle.std.specs.Prelude.{None}
 use Prim.Native.Nat.{ℕ, suc, ◌+◌, ◌-◌, ◌≤◌, ◌<◌}
 use mathlib.Core.Path.{◌≡◌, refl, ap, sym, ◌∙◌}
 use mathlib.Core.List.{List, [], ◌∷◌, ◌++◌, append_assoc}
@@ -9,7 +10,6 @@ use borrow.Author.Tests.{leb-true, leb-false, ltb-true, ltb-false, le-leb, lt-le
 use lib.ListN.{length, get_or, take, drop, set, length-append, length-take, length-drop, get_or-eq_default, take-append-drop, drop_of_length-le}
 use lib.Seq.{take_all, take_at, take-take, drop-append-le, drop-cons, get_or_at, get_or-append-add, length-take-le, set_at, take-suc, take-append_seam}
 use lib.Dec.{ltb, leb}
-use Rattle.wire_frames.specs.declared.frame.End.TheVariants.{Going}
 use Rattle.wire_frames.specs.Fields.{len_of}
 use Rattle.wire_frames.specs.Reading.{verdict_of, Outcome, Begun, Ended, started, read_frame}
 use Rattle.wire_frames.proofs.Cut.{size_append, verdict_append, started-begun}
@@ -175,7 +175,7 @@ module _ (cap : ℕ) (device : Bool) (f : List ℕ) (whole : length f ≡ 12 + c
       let j : over d a ++ x ≡ d ++ (drop (length d) a ++ x) = append_assoc d (drop (length d) a) x in
       let z : len_of (over d a ++ x) ≡ len_of p = ap len_of j ∙ size_append cap device d (drop (length d) a ++ x) (omega arith) ∙
       size_take cap device k p (omega arith) o.long in
-      let w : verdict_of cap device (over d a ++ x) ≡ Going =
+      let w : verdict_of cap device (over d a ++ x) ≡ None =
       ap (verdict_of cap device) j ∙ verdict_append cap device d (drop (length d) a ++ x) (omega arith) ∙ verdict_take cap device k p (omega arith) o.long ∙
       o.passed in
       let t : take k (over d a ++ x) ≡ d = ap (take k) j ∙ take_at d (drop (length d) a ++ x) k ld in

@@ -1,17 +1,16 @@
 -- How a list of bytes is read as one stream, up to the end of its first frame (01, Frame bytes). `cap` is the payload capacity; `device` is true for a
 -- device, which overhears a frame whose status is not Request, and false for the desk, which reads every status.
+use Rattle.std.specs.Prelude.{Option, Some, None}
 use Rattle.std.specs.Prelude.{ℕ, ◌+◌, List, [], ◌∷◌, Bool, true, false, not, ◌&&◌, ◌||◌, length, get_or, take, drop, ltb, eqb, if◌then◌else◌}
 use Rattle.laws.specs.Pick.{pick}
 use Rattle.laws.specs.Low.{low_first}
-use Rattle.laws.specs.Lookup.{Lookup, none, some}
+use Rattle.std.specs.Option.{option_map}
 use Rattle.wire_numbers.specs.declared.Status.{Status}
 use Rattle.wire_numbers.specs.Names.{status_number}
 use Rattle.wire_numbers.specs.Crc.{crc_of}
 use Rattle.wire_frames.specs.Fields.{cmd_of, status_of, len_of}
 use Rattle.wire_frames.specs.declared.frame.Kind.{Kind}
 use Rattle.wire_frames.specs.declared.frame.Kind.TheVariants.{Unsupported, PayloadOverflow, Overheard, CrcMismatch, Good}
-use Rattle.wire_frames.specs.declared.frame.End.{End}
-use Rattle.wire_frames.specs.declared.frame.End.TheVariants.{Going, Over}
 
 -- hunting: no sync yet, and whether the last byte was AA; or the bytes after AA 55
 pub data Hunt : Type 0 where
@@ -38,19 +37,18 @@ kind_status CrcMismatch = status_number Status.CrcMismatch
 kind_status Good = status_number Status.Ok
 
 -- what a header says, by its number: none where the frame goes on
-abbrev pub end_status : End → Lookup
-end_status Going = none
-end_status (Over k) = some (kind_status k)
+abbrev pub end_status : Option Kind → Option ℕ
+end_status = option_map kind_status
 
 -- what a header of this command, status and length says (01, Frame bytes, steps 1 and 2)
-abbrev pub header_of : ℕ → Bool → ℕ → ℕ → ℕ → End
+abbrev pub header_of : ℕ → Bool → ℕ → ℕ → ℕ → Option Kind
 header_of cap device cmd status len =
-    if ltb 5 cmd || ltb 7 status then Over Unsupported else
-    if ltb cap len then Over (if overhears device status then Overheard else PayloadOverflow) else
-    Going
+    if ltb 5 cmd || ltb 7 status then Some Unsupported else
+    if ltb cap len then Some (if overhears device status then Overheard else PayloadOverflow) else
+    None
 
 -- the same of a header's bytes, ten or more
-unfoldable pub verdict_of : ℕ → Bool → List ℕ → End
+unfoldable pub verdict_of : ℕ → Bool → List ℕ → Option Kind
 verdict_of cap device f = header_of cap device (cmd_of f) (status_of f) (len_of f)
 
 -- what a whole frame says; its CRC covers all that stands before it (01, Frame bytes, steps 3 and 4)
@@ -66,9 +64,9 @@ pub data Outcome : Type 0 where
   Ended : Kind → List ℕ → List ℕ → Outcome
 
 -- a header's verdict carried out: the frame ends with it, or goes on for its data and CRC (01, Frame bytes, steps 1 to 3)
-abbrev pub judged : Bool → End → List ℕ → Outcome
-judged device (Over k) f = Ended k (take 10 f) (drop 10 f)
-judged device Going f =
+abbrev pub judged : Bool → Option Kind → List ℕ → Outcome
+judged device (Some k) f = Ended k (take 10 f) (drop 10 f)
+judged device None f =
     if ltb (length f) (12 + len_of f) then Begun f else
     Ended (checked device f) (take (12 + len_of f) f) (drop (12 + len_of f) f)
 

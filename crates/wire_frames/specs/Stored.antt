@@ -1,12 +1,11 @@
 -- What the bytes of a frame hold, and what feeding it a piece of the stream gives, from the reading of the whole stream. Of a payload capacity `cap` a
 -- frame has 12 + cap bytes: header and data at their offsets, the received CRC apart at the end (01, Port order: 64 frame bytes with fixed offsets).
+use Rattle.std.specs.Prelude.{Option, Some, None}
 use Rattle.std.specs.Prelude.{ℕ, ◌+◌, ◌-◌, ◌≤◌, ◌<◌, ◌≡◌, Bool, true, false, ◌&&◌, ◌||◌, ltb, leb, eqb}
 use Rattle.std.specs.Prelude.{List, [], ◌∷◌, ◌++◌, length, get_or, take, drop, replicate}
 use Rattle.laws.specs.Pick.{pick}
 use Rattle.laws.specs.Over.{over}
 use Rattle.wire_frames.specs.declared.frame.Kind.{Kind}
-use Rattle.wire_frames.specs.declared.frame.End.{End}
-use Rattle.wire_frames.specs.declared.frame.End.TheVariants.{Going, Over}
 use Rattle.wire_frames.specs.declared.frame.Stop.{Stop}
 use Rattle.wire_frames.specs.declared.frame.Frame.{Frame}
 use Rattle.wire_frames.specs.Fields.{len_of}
@@ -69,9 +68,9 @@ abbrev pub out_of : ℕ → List ℕ → ℕ → Outcome → Read
 out_of cap f n (Begun q) = record { bytes = store cap f q; got = length q; taken = n; said = quiet }
 out_of cap f n (Ended k q r) = record { bytes = store cap f q; got = 0; taken = n - length r; said = ended k }
 
-abbrev pub goes : End → Bool
-goes Going = true
-goes (Over k) = false
+abbrev pub goes : Option Kind → Bool
+goes None = true
+goes (Some k) = false
 
 -- a true beginning of a frame: the sync word as far as it has come, a header that passed once it has come, and a place inside the frame (01, What a call
 -- says, well formed)
@@ -101,7 +100,7 @@ part_of cap device f g l =
 pub record Well (cap : ℕ) (device : Bool) (f : List ℕ) (g : ℕ) : Type 0 where
   pub whole : length f ≡ 12 + cap
   pub synced : f ≡ 0xAA ∷ 0x55 ∷ drop 2 f
-  pub going : 10 ≤ g → verdict_of cap device f ≡ Going
+  pub going : 10 ≤ g → verdict_of cap device f ≡ None
   pub inside : 10 ≤ g → g < 12 + len_of f
 
 -- how much of the sync word has come after the byte b
@@ -113,16 +112,16 @@ abbrev pub wanted_of : List ℕ → ℕ → ℕ
 wanted_of f g = pick (ltb g 2) 0 (pick (ltb g 10) (9 - g) (10 + len_of f - g))
 
 -- what the bytes x do to a frame: whatever l follows, the reading goes on from the frame after them; or it is over at their end
-abbrev pub After : ℕ → Bool → List ℕ → ℕ → List ℕ → List ℕ → ℕ → End → Type 0
-After cap device f g x f' g' Going =
+abbrev pub After : ℕ → Bool → List ℕ → ℕ → List ℕ → List ℕ → ℕ → Option Kind → Type 0
+After cap device f g x f' g' None =
     Well cap device f' g' ×
     ((l : List ℕ) (n : ℕ) → out_of cap f n (read_frame cap device (begun cap f g ++ (x ++ l))) ≡ out_of cap f' n (read_frame cap device (begun cap f' g' ++ l)))
-After cap device f g x f' g' (Over k) =
+After cap device f g x f' g' (Some k) =
     (l : List ℕ) (n : ℕ) → out_of cap f n (read_frame cap device (begun cap f g ++ (x ++ l))) ≡
     record { bytes = f'; got = 0; taken = n - length l; said = ended k }
 
 -- a turn took m bytes of the list l, from i on
-pub record Turned (cap : ℕ) (device : Bool) (f : List ℕ) (g : ℕ) (l : List ℕ) (i : ℕ) (f' : List ℕ) (g' m : ℕ) (end : End) : Type 0 where
+pub record Turned (cap : ℕ) (device : Bool) (f : List ℕ) (g : ℕ) (l : List ℕ) (i : ℕ) (f' : List ℕ) (g' m : ℕ) (end : Option Kind) : Type 0 where
   pub after : After cap device f g (take m (drop i l)) f' g' end
   pub some : 0 < m
   pub within : i + m ≤ length l

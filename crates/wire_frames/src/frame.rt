@@ -49,13 +49,6 @@ pub enum Kind {
     Good,
 }
 
-// A frame goes on, or is over.
-#[derive(Clone, Copy)]
-pub enum End {
-    Going,
-    Over(Kind),
-}
-
 // How a call stopped: the frame handed in was no true beginning; all bytes were taken; or a frame has ended, and how.
 // Flat: a variant that holds another enum is stored as two bytes and read back as one number, which stalls.
 #[derive(Clone, Copy, Debug, PartialEq, Eq)]
@@ -92,20 +85,20 @@ fn strange(cmd: u8, status: u8) -> bool
     5 < cmd || 7 < status
 }
 
-// What a whole header says, of its command, status and length: going on, or the frame's end.
-pub fn verdict(cmd: u8, status: u8, len: u16, device: bool) -> End
+// What a whole header says, of its command, status and length: how the frame ends with it; None where it goes on.
+pub fn verdict(cmd: u8, status: u8, len: u16, device: bool) -> Option<Kind>
     ensures { end_status result ≡ end_status (header_of 52 device cmd status len) }
 {
     if strange(cmd, status) {
-        return End::Over(Kind::Unsupported);
+        return Some(Kind::Unsupported);
     }
     if len as usize <= DEFAULT_PAYLOAD {
-        return End::Going;
+        return None;
     }
     if heard(device, status) {
-        return End::Over(Kind::Overheard);
+        return Some(Kind::Overheard);
     }
-    End::Over(Kind::PayloadOverflow)
+    Some(Kind::PayloadOverflow)
 }
 
 // Whether a byte that has come is the one that is due at its place.
@@ -119,27 +112,18 @@ fn due(got: usize, place: usize, b: u8, want: u8) -> bool
 fn inside(cmd: u8, status: u8, len: u16, got: usize, device: bool) -> bool
     ensures { result ≡ (leb got 9 || (goes (header_of 52 device cmd status len) && ltb got (12 + len))) }
 {
-    if got <= 9 {
-        return true;
-    }
-    let end = verdict(cmd, status, len, device);
-    if let End::Going = end {
-        return got < 12 + len as usize;
-    }
-    false
+    got <= 9 || verdict(cmd, status, len, device).is_none() && got < 12 + len as usize
 }
 
 // Whether the first `got` bytes are a true beginning of a frame.
+#[tactic(auto, unfolding(crate::specs::Stored::well_of, crate::specs::Reading::verdict_of))]
 fn well(f: &[u8], got: usize, device: bool) -> bool
     requires { length f.now ≡ 64 }
     ensures { result ≡ well_of 52 device f.now got }
 {
-    if due(got, 0, f[0], Sync::VALID.0) {
-        if due(got, 1, f[1], Sync::VALID.1) {
-            return inside(f[2], f[3], le::read16(f[8], f[9]), got, device);
-        }
-    }
-    false
+    due(got, 0, f[0], Sync::VALID.0)
+        && due(got, 1, f[1], Sync::VALID.1)
+        && inside(f[2], f[3], le::read16(f[8], f[9]), got, device)
 }
 
 // Whether the first `got` bytes of a lent frame are a true beginning of one.
@@ -153,8 +137,5 @@ pub fn is_beginning(f: &FrameBytes, got: usize, device: bool) -> bool
 pub fn begins(f: &[u8], got: usize, device: bool) -> bool
     ensures { result ≡ (eqb (length f.now) 64 && well_of 52 device f.now got) }
 {
-    if f.len() == FRAME {
-        return well(f, got, device);
-    }
-    false
+    f.len() == FRAME && well(f, got, device)
 }

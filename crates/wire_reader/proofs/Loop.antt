@@ -1,4 +1,5 @@
 -- The loop: the reading of what is left goes on from the frame as it is.
+use Rattle.std.specs.Prelude.{Some, None}
 use Prim.Native.Nat.{ℕ, ◌+◌, ◌-◌, ◌≤◌}
 use mathlib.Core.Path.{◌≡◌, sym, ◌∙◌}
 use mathlib.Core.List.{List, ◌++◌}
@@ -7,7 +8,6 @@ use native.Mathlib.Omega.{arith}
 use lib.ListN.{length, take, drop, length-drop, drop_of_length-le, take-append-drop}
 use lib.Seq.{drop-drop}
 use Rattle.wire_frames.specs.declared.frame.Kind.{Kind}
-use Rattle.wire_frames.specs.declared.frame.End.TheVariants.{Going, Over}
 use Rattle.wire_frames.specs.Reading.{read_frame}
 use Rattle.wire_frames.specs.Stored.{Read, begun, out_of, quiet, ended, Well, Turned}
 use Rattle.wire_frames.proofs.Steps.{stays}
@@ -25,7 +25,7 @@ module _ (cap : ℕ) (device : Bool) (l : List ℕ) (r : Read) (f : List ℕ) (g
 
   module _ (f' : List ℕ) (g' m : ℕ) where
     -- the frame goes on
-    pub again : Turned cap device f g l i f' g' m Going → Inv cap device l r f' g' (i + m)
+    pub again : Turned cap device f g l i f' g' m None → Inv cap device l r f' g' (i + m)
     again t =
         record {
           within = t.within;
@@ -34,7 +34,7 @@ module _ (cap : ℕ) (device : Bool) (l : List ℕ) (r : Read) (f : List ℕ) (g
         }
 
     -- it has ended
-    pub over_at : (k : Kind) → Turned cap device f g l i f' g' m (Over k) → record { bytes = f'; got = 0; taken = i + m; said = ended k } ≡ r
+    pub over_at : (k : Kind) → Turned cap device f g l i f' g' m (Some k) → record { bytes = f'; got = 0; taken = i + m; said = ended k } ≡ r
     over_at k t =
         let h : i + m ≤ length l = t.within in
         let n : length l - length (drop (i + m) l) ≡ i + m = rw (length-drop (i + m) l) (omega arith) in

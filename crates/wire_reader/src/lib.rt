@@ -12,7 +12,7 @@ ghost use Rattle.wire_frames.specs.Reading.{verdict_of, checked, read_frame};
 ghost use Rattle.wire_frames.specs.declared.frame.Stop.TheVariants.{Refused};
 ghost use Rattle.wire_frames.specs.Stored.{begun, Well, wanted_of, After, Turned, out_of, ended, said_of, seen, read_of, part_of};
 
-use wire_frames::frame::{End, FRAME, Frame, FrameBytes, Kind, Passed, Stop};
+use wire_frames::frame::{FRAME, Frame, FrameBytes, Kind, Passed, Stop};
 use wire_frames::sync::Sync;
 use wire_frames::{frame, sync};
 use wire_numbers::{crc, le};
@@ -24,19 +24,19 @@ pub struct Taken {
     pub stop: Stop,
 }
 
-// What a byte does: how many bytes have begun, and whether the frame has ended. Counts within a frame are u32, which costs a small controller less.
-#[derive(Drop)]
+// What a byte does: how many bytes have begun, and how the frame has ended, where it has. Counts within a frame are u32, which costs a small controller less.
+#[derive(Clone, Copy)]
 struct Step {
     got: u32,
-    end: End,
+    end: Option<Kind>,
 }
 
 // The same of a turn, and how many bytes it took.
-#[derive(Drop)]
+#[derive(Clone, Copy)]
 struct Turn {
     got: u32,
     taken: u32,
-    end: End,
+    end: Option<Kind>,
 }
 
 // The length in the header.
@@ -46,8 +46,8 @@ fn len(f: &FrameBytes) -> u32
     le::read16(f[8], f[9]) as u32
 }
 
-// What a whole header says: going on, or the frame's end.
-fn judge(f: &FrameBytes, device: bool) -> End
+// What a whole header says: how the frame ends with it; None where it goes on.
+fn judge(f: &FrameBytes, device: bool) -> Option<Kind>
     ensures { result ≡ verdict_of 52 device f.now }
 {
     frame::verdict(f[2], f[3], le::read16(f[8], f[9]), device)
@@ -83,11 +83,13 @@ fn head(f: &mut FrameBytes, device: bool, b: u8) -> Step
 {
     f[9] = b;
     let end = judge(f, device);
-    let mut got: u32 = 0;
-    if let End::Going = end {
-        got = 10;
+    match end {
+        None => Step { got: 10, end: None },
+        Some(kind) => Step {
+            got: 0,
+            end: Some(kind),
+        },
     }
-    Step { got: got, end: end }
 }
 
 // m bytes from at on, copied to got and on, one by one.
@@ -130,10 +132,7 @@ fn wanted(f: &FrameBytes, got: u32) -> u32
 fn least(a: u32, b: usize) -> u32
     ensures { result ≡ pick (leb a b) a b }
 {
-    if a as usize <= b {
-        return a;
-    }
-    b as u32
+    (a as usize).min(b) as u32
 }
 
 // The CRC's two bytes.
@@ -142,21 +141,19 @@ fn tail(f: &mut FrameBytes, got: u32, device: bool, b: u8) -> Step
     ensures { After 52 device f.old got (b ∷ []) f.new result.got result.end }
 {
     let n = len(f);
-    let mut s = Step {
-        got: got + 1,
-        end: End::Going,
-    };
     if got == 10 + n {
         f[62] = b;
-    } else {
-        let kind = finish(f, n, device, b);
-        f[63] = b;
-        s = Step {
-            got: 0,
-            end: End::Over(kind),
+        return Step {
+            got: got + 1,
+            end: None,
         };
     }
-    s
+    let kind = finish(f, n, device, b);
+    f[63] = b;
+    Step {
+        got: 0,
+        end: Some(kind),
+    }
 }
 
 // A byte that is looked at.
@@ -166,10 +163,7 @@ fn push(f: &mut FrameBytes, got: u32, device: bool, b: u8) -> Step
 {
     if got < 2 {
         let g = sync::hunted(got as usize, b) as u32;
-        return Step {
-            got: g,
-            end: End::Going,
-        };
+        return Step { got: g, end: None };
     }
     if got < 10 {
         return head(f, device, b);
@@ -185,11 +179,10 @@ fn take_turn(f: &mut FrameBytes, got: u32, device: bool, bytes: &[u8], at: usize
     let want = wanted(f, got);
     if want == 0 {
         let s = push(f, got, device, bytes[at]);
-        let end = s.end;
         return Turn {
             got: s.got,
             taken: 1,
-            end: end,
+            end: s.end,
         };
     }
     let m = least(want, bytes.len() - at);
@@ -197,7 +190,7 @@ fn take_turn(f: &mut FrameBytes, got: u32, device: bool, bytes: &[u8], at: usize
     Turn {
         got: got + m,
         taken: m,
-        end: End::Going,
+        end: None,
     }
 }
 
@@ -224,13 +217,11 @@ fn pass(f: &mut FrameBytes, start: usize, device: bool, bytes: &[u8]) -> Passed
         let t = take_turn(f, got, device, bytes, i);
         i += t.taken as usize;
         got = t.got;
-        let end = t.end;
-        if let End::Over(k) = end {
-            let stop = told(k);
+        if let Some(kind) = t.end {
             return Passed {
                 got: 0,
                 taken: i,
-                stop: stop,
+                stop: told(kind),
             };
         }
     }
@@ -279,14 +270,12 @@ fn read_frame(frame: Frame, device: bool, bytes: &[u8]) -> Taken
     ensures { seen result.frame.bytes result.frame.got result.taken result.stop ≡ read_of 52 device frame.bytes frame.got bytes.now }
 {
     let mut s = frame;
-    let got = s.got;
-    let p = read_in(&mut s.bytes, got, device, bytes);
+    let p = read_in(&mut s.bytes, frame.got, device, bytes);
     s.got = p.got;
-    let stop = p.stop;
     Taken {
         frame: s,
         taken: p.taken,
-        stop: stop,
+        stop: p.stop,
     }
 }
 

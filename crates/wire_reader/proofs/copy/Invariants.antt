@@ -1,7 +1,7 @@
 use lib.Seq.{paste}
 use lib.ListN.{length, drop}
 use mathlib.Core.Path.{◌≡◌}
-use Prim.Native.Nat.{◌-◌, ◌≤◌}
+use Prim.Native.Nat.{◌≤◌}
 use Rattle.wire_reader.proofs.copy.Given as goal
 
 abbrev pub invariant-loop-j : goal.invariant-loop-j

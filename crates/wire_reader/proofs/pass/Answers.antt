@@ -17,14 +17,14 @@ take_turn-t-requires c = (c.loop-i-test.true, c.loop-i.invariant.well)
 pub overflow_add-i : goal.overflow_add-i
 overflow_add-i c = omega (arith, c.take_turn-t.ensures.within)
 
-pub returns-in-Over : goal.returns-in-Over
-returns-in-Over c =
+pub returns-in-Some : goal.returns-in-Some
+returns-in-Some c =
     let a = c.args in
     let v = c.loop-i in
     let t = c.take_turn-t in
-    rw c.told-stop.ensures
-    (over_at 52 a.device a.bytes.now _ v.f v.got v.i v.invariant t.new.f t.result.got t.result.taken c.in-Over.k
-    (rw c.in-Over.is at t.ensures))
+    rw c.told.ensures
+    (over_at 52 a.device a.bytes.now _ v.f v.got v.i v.invariant t.new.f t.result.got t.result.taken c.in-Some.kind
+    (rw c.in-Some.is at t.ensures))
 
 pub loop-i-smaller : goal.loop-i-smaller
 loop-i-smaller c = let t = c.take_turn-t in

@@ -1,4 +1,4 @@
-use Rattle.std.proofs.Common.{rules, ◌≡◌}
+use Rattle.std.proofs.Common.{rules}
 use Rattle.wire_frames.specs.Stored.{part_of}
 use Rattle.wire_frames.proofs.Parts.{part_of_whole}
 use Rattle.wire_reader.proofs.read_part.Goals as goal

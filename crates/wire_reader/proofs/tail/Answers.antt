@@ -15,8 +15,8 @@ finish-kind-requires c =
     let p = c.requires in
     (omega (arith, c.len-n.ensures.0, going_size 52 a.device a.f.now (p.2.going p.0)), c.len-n.ensures.0)
 
-pub returns-else-got-n : goal.returns-else-got-n
-returns-else-got-n c =
+pub returns : goal.returns
+returns c =
     let a = c.args in
     let p = c.requires in
     rw (c.finish-kind.ensures, c.len-n.ensures.0)

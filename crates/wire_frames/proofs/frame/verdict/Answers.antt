@@ -1,17 +1,16 @@
+use Rattle.std.specs.Prelude.{Option, Some}
 use mathlib.Core.Path.{◌≡◌, ap, sym, ◌∙◌}
 use mathlib.Core.Bool.{Bool, true, false}
 use Rattle.laws.specs.Pick.{pick}
 use Rattle.wire_frames.specs.declared.frame.Kind.{Kind}
-use Rattle.wire_frames.specs.declared.frame.End.{End}
-use Rattle.wire_frames.specs.declared.frame.End.TheVariants.{Over}
 use Rattle.wire_frames.specs.Reading.{end_status}
 use Rattle.wire_frames.proofs.Reading.{header_strange, header-going, header_long}
 use Rattle.wire_frames.proofs.frame.verdict.Goals as goal
 
 -- t is whether the frame is overheard
-told : (t b : Bool) → t ≡ b → (x : End) → x ≡ Over (pick t Kind.Overheard Kind.PayloadOverflow) →
-    end_status (Over (pick b Kind.Overheard Kind.PayloadOverflow)) ≡ end_status x
-told t b e x k = ap (λ (v : Bool). end_status (Over (pick v Kind.Overheard Kind.PayloadOverflow))) (sym e) ∙ ap end_status (sym k)
+told : (t b : Bool) → t ≡ b → (x : Option Kind) → x ≡ Some (pick t Kind.Overheard Kind.PayloadOverflow) →
+    end_status (Some (pick b Kind.Overheard Kind.PayloadOverflow)) ≡ end_status x
+told t b e x k = ap (λ (v : Bool). end_status (Some (pick v Kind.Overheard Kind.PayloadOverflow))) (sym e) ∙ ap end_status (sym k)
 
 pub returns-then-strange : goal.returns-then-strange
 returns-then-strange c =
