@@ -5,7 +5,6 @@ use mathlib.Core.List.{List, [], ◌∷◌, ◌++◌}
 use mathlib.Core.Bool.{Bool, true, false}
 use native.Mathlib.Omega.{arith}
 use lib.ListN.{replicate}
-use Rattle.laws.specs.Fold.{fold}
 use Rattle.wire_numbers.specs.Crc.{entered, bits, bits_of, crc_from}
 use Rattle.cmd_select.specs.Select.{agree, matches, slot_of, copied, select_of}
 use Rattle.cmd_select.proofs.Selecting.{zero_always, past_never}
@@ -57,7 +56,7 @@ twins_hold = (refl, (refl, (refl, (refl, tt))))
 
 -- the slots of some seeds: the Rust's CRC of 5A 01 is 0xEC5A
 slots : (slot_of 0 (0x5A ∷ 0x01 ∷ []) ≡ 10) × (slot_of 3 (0x5A ∷ 0x01 ∷ []) ≡ 11) × (slot_of 15 (0x5A ∷ 0x01 ∷ []) ≡ 1) × (slot_of 0xF8 (0x5A ∷ 0x01 ∷ []) ≡ 12)
-unfolding slot_of crc_from bits_of bits entered fold
+unfolding slot_of crc_from bits_of bits entered
 slots = (refl, refl, refl, refl)
 
 -- a frame with the data a, and zero after it
@@ -66,7 +65,7 @@ frame a = (0xAA ∷ 0x55 ∷ 5 ∷ 0 ∷ 1 ∷ 2 ∷ 3 ∷ 4 ∷ 0 ∷ 0 ∷ [])
 
 -- the whole of it: a match, and none, in which the id is copied too; seed 3
 whole_yes : select_of (0x5A ∷ 0x01 ∷ []) (frame (3 ∷ 9 ∷ 0x5A ∷ 0xFF ∷ [])) ≡ record { match = true; wait = 11; bytes = frame (0x5A ∷ 0x01 ∷ 0x5A ∷ 0xFF ∷ []) }
-unfolding select_of matches agree copied slot_of crc_from bits_of bits entered fold
+unfolding select_of matches agree copied slot_of crc_from bits_of bits entered
 whole_yes = refl
 
 whole_no : select_of (0x5A ∷ 0x01 ∷ []) (frame (3 ∷ 9 ∷ 0x5A ∷ 0x00 ∷ [])) ≡ record { match = false; wait = 0; bytes = frame (0x5A ∷ 0x01 ∷ 0x5A ∷ 0x00 ∷ []) }

@@ -5,7 +5,6 @@ use mathlib.Core.Path.{◌≡◌, refl}
 use mathlib.Core.List.{List, [], ◌∷◌}
 use mathlib.Core.Bool.{Bool, true, false}
 use lib.ListN.{replicate}
-use Rattle.laws.specs.Fold.{fold}
 use Rattle.wire_numbers.specs.Crc.{entered, bits, bits_of, crc_from}
 use Rattle.store_record.specs.State.{state_read, app_present}
 use Rattle.device_boot.specs.Start.{valid_of, tried_of, cleared_of, start_of}
@@ -64,9 +63,9 @@ careful =
     []
 
 starts_hold : held starts
-unfolding start_of cleared_of tried_of valid_of app_present state_read crc_from bits_of bits entered fold
+unfolding start_of cleared_of tried_of valid_of app_present state_read crc_from bits_of bits entered
 starts_hold = (refl, (refl, (refl, (refl, (refl, (refl, (refl, (refl, (refl, (refl, (refl, tt)))))))))))
 
 careful_hold : held careful
-unfolding start_of cleared_of tried_of valid_of app_present state_read crc_from bits_of bits entered fold
+unfolding start_of cleared_of tried_of valid_of app_present state_read crc_from bits_of bits entered
 careful_hold = (refl, (refl, (refl, (refl, (refl, (refl, (refl, tt)))))))

@@ -9,7 +9,6 @@ use lib.Dec.{eqb, leb, ltb}
 use native.Mathlib.Omega.{arith}
 use borrow.Author.Tests.{eqb-true, eqb-false, eq-eqb, ne_eqb, ltb-true}
 use Rattle.laws.specs.Pick.{pick}
-use Rattle.laws.specs.Fold.{fold}
 use Rattle.laws.proofs.Bools.{or_either}
 use Rattle.wire_numbers.specs.Crc.{bits_of, crc_from, crc_of}
 use Rattle.store_record.specs.Record.{updating, validating, trials_of, checksum_of, size_of, trial_used}
@@ -46,7 +45,7 @@ module _ (careful : Bool) (capacity : ℕ) (meta : List ℕ) where
 
 -- no byte at all has the CRC's start for its CRC, which is the sign for none
 crc_none : crc_of [] ≡ 0xFFFF
-unfolding crc_from bits_of fold
+unfolding crc_from bits_of
 crc_none = refl
 
 -- an image that the record rules out passes on no flash

@@ -1,5 +1,5 @@
 -- What vectors compute by, each list stated once: who names one of these on an `unfolding` line unfolds all that stands under it.
-use Rattle.laws.specs.Fold.{fold}
+use Rattle.std.specs.Prelude.{fold}
 use Rattle.wire_numbers.specs.Crc.{entered, bits, bits_of, crc_from}
 use Rattle.wire_frames.specs.Reading.{hunt, overhears, verdict_of, checked, started}
 use Rattle.wire_frames.specs.Stored.{begun, store, well_of}

@@ -3,7 +3,6 @@ use Prim.Native.Nat.{ℕ}
 use mathlib.Core.Path.{◌≡◌, refl}
 use mathlib.Core.Bool.{false}
 use mathlib.Core.List.{List, [], ◌∷◌}
-use Rattle.laws.specs.Fold.{fold}
 use Rattle.wire_numbers.specs.Crc.{bits_of, crc_from}
 use Rattle.store_record.specs.State.{state_read}
 use Rattle.store_record.specs.Record.{trials_of, longest, starts_left}
@@ -24,9 +23,9 @@ abbrev empty : List ℕ
 empty = 0x3F ∷ 0x01 ∷ 0x34 ∷ 0x12 ∷ 0 ∷ 0 ∷ 0 ∷ 0 ∷ 0xFF ∷ 0xFF ∷ 0xFF ∷ 0xFF ∷ []
 
 pub trial_used_lem : trials_of (start_of false 16384 0 [] empty).meta ≡ 0
-unfolding start_of cleared_of tried_of valid_of state_read crc_from bits_of fold
+unfolding start_of cleared_of tried_of valid_of state_read crc_from bits_of
 trial_used_lem = refl
 
 pub trial_kept : trials_of (start_of false 16384 0 [] (mended 16384 empty)).meta ≡ 1
-unfolding mended start_of cleared_of tried_of valid_of state_read starts_left longest crc_from bits_of fold
+unfolding mended start_of cleared_of tried_of valid_of state_read starts_left longest crc_from bits_of
 trial_kept = refl

@@ -5,17 +5,13 @@ use Prim.Native.Nat.{ℕ, ◌+◌, ◌<◌, ◌≤◌}
 use native.Mathlib.Nat.{add_assoc}
 use native.Mathlib.Omega.{arith}
 use lib.ListN.{length, drop, get_or}
-use Rattle.laws.specs.Fold.{fold}
-use Rattle.laws.proofs.Folds.{more, done}
+use Rattle.std.specs.Prelude.{fold}
+use Rattle.laws.proofs.Folds.{more}
 
 module _ (f : ℕ → ℕ → ℕ) (xs : List ℕ) (a i whole : ℕ) (inv : fold f a (drop i xs) ≡ whole) where
   -- a turn of the loop, which made r of a and element i
   pub turned : (r : ℕ) → i < length xs → r ≡ f a (get_or xs i 0) → fold f r (drop (i + 1) xs) ≡ whole
   turned r h e = ap (λ (x : ℕ). fold f x (drop (i + 1) xs)) e ∙ more f xs a i h ∙ inv
-
-  -- past the last element
-  pub ended : length xs ≤ i → a ≡ whole
-  ended h = sym (done f xs a i h) ∙ inv
 
 -- a turn that took four elements at once, or eight
 module _ (f : ℕ → ℕ → ℕ) (xs : List ℕ) (i whole : ℕ) where
@@ -26,7 +22,6 @@ module _ (f : ℕ → ℕ → ℕ) (xs : List ℕ) (i whole : ℕ) where
   four a = fold f a (get_or xs i 0 ∷ get_or xs (i + 1) 0 ∷ get_or xs (i + 2) 0 ∷ get_or xs (i + 3) 0 ∷ [])
 
   pub turned_four : (a r : ℕ) → fold f a (drop i xs) ≡ whole → i + 4 ≤ length xs → r ≡ four a → fold f r (drop (i + 4) xs) ≡ whole
-  unfolding fold
   turned_four a r inv h e =
       let a1 : ℕ = f a (get_or xs i 0) in
       let a2 : ℕ = f a1 (get_or xs (i + 1) 0) in
@@ -43,7 +38,6 @@ module _ (f : ℕ → ℕ → ℕ) (xs : List ℕ) (i whole : ℕ) where
       get_or xs (i + 4) 0 ∷ get_or xs (i + 5) 0 ∷ get_or xs (i + 6) 0 ∷ get_or xs (i + 7) 0 ∷ [])
 
   pub turned_eight : (a r : ℕ) → fold f a (drop i xs) ≡ whole → i + 8 ≤ length xs → r ≡ eight a → fold f r (drop (i + 8) xs) ≡ whole
-  unfolding fold
   turned_eight a r inv h e =
       let a4 : ℕ = four a in
       let a5 : ℕ = f a4 (get_or xs (i + 4) 0) in

@@ -1,4 +1,3 @@
 pub mod Pick
-pub mod Fold
 pub mod Low
 pub mod Over

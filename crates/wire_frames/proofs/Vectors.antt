@@ -5,7 +5,6 @@ use mathlib.Core.Path.{◌≡◌, refl}
 use mathlib.Core.List.{List, [], ◌∷◌, ◌++◌}
 use lib.ListN.{replicate}
 use mathlib.Core.Bool.{Bool, true, false}
-use Rattle.laws.specs.Fold.{fold}
 use Rattle.wire_numbers.specs.Crc.{entered, bits, bits_of, crc_from}
 use Rattle.wire_frames.specs.declared.frame.Kind.TheVariants.{Unsupported, PayloadOverflow, Overheard, CrcMismatch, Good}
 use Rattle.wire_frames.specs.Reading.{hunt, overhears, verdict_of, checked, started}
@@ -46,7 +45,7 @@ cases =
     []
 
 all_held : held cases
-unfolding read_of well_of begun store hunt started verdict_of overhears checked crc_from bits_of bits entered fold
+unfolding read_of well_of begun store hunt started verdict_of overhears checked crc_from bits_of bits entered
 all_held = (
   (refl, refl),
   (

@@ -2,7 +2,6 @@
 use Rattle.std.proofs.Common.{◌≡◌, ℕ, ◌+◌, ◌-◌, ◌*◌, ◌/◌, ◌%◌, ◌^◌, ◌<◌, List, [], ◌∷◌, length, take, drop}
 use Rattle.std.proofs.Common.{sym, ap, ◌∙◌, ap₂, add-zero, arith, length-drop, take_all, pow_pos}
 use lib.Bits.{bit_xor, xor_lt, xor_block, xor_shifted}
-use Rattle.laws.specs.Fold.{fold}
 use Rattle.laws.specs.Low.{low_first}
 use Rattle.laws.proofs.Linear.{Linear, lin_id, lin_shr, lin_mod, lin_up, lin_shl, lin_then, lin_xor, agree}
 use Rattle.laws.proofs.Xor.{xor_assoc}
@@ -115,7 +114,6 @@ placed k c v r h = ap (λ (x : ℕ). bit_xor x (v * 2 ^ k + r)) (sym (add-zero (
 
 pub four_bytes : (c b0 b1 b2 b3 : ℕ) → c < 65536 → b0 < 256 → b1 < 256 → b2 < 256 → b3 < 256
     → crc_long (bit_xor (c * 2 ^ 16 % 2 ^ 64) (low_first (b3 ∷ b2 ∷ b1 ∷ b0 ∷ []))) ≡ crc_bytes c (b0 ∷ b1 ∷ b2 ∷ b3 ∷ [])
-unfolding fold
 four_bytes c b0 b1 b2 b3 hc h0 h1 h2 h3 =
     let v : ℕ = b0 * 256 + b1 in
     let r : ℕ = b2 * 256 + b3 in
@@ -130,7 +128,6 @@ four_bytes c b0 b1 b2 b3 hc h0 h1 h2 h3 =
 pub eight_bytes : (c b0 b1 b2 b3 b4 b5 b6 b7 : ℕ) → c < 65536 → b0 < 256 → b1 < 256 → b2 < 256 → b3 < 256 → b4 < 256 → b5 < 256 → b6 < 256 → b7 < 256
     → crc_long (bit_xor (c * 2 ^ 48 % 2 ^ 64) (low_first (b7 ∷ b6 ∷ b5 ∷ b4 ∷ b3 ∷ b2 ∷ b1 ∷ b0 ∷ [])))
     ≡ crc_bytes c (b0 ∷ b1 ∷ b2 ∷ b3 ∷ b4 ∷ b5 ∷ b6 ∷ b7 ∷ [])
-unfolding fold
 eight_bytes c b0 b1 b2 b3 b4 b5 b6 b7 hc h0 h1 h2 h3 h4 h5 h6 h7 =
     let v : ℕ = b0 * 256 + b1 in
     let r : ℕ = ((((b2 * 256 + b3) * 256 + b4) * 256 + b5) * 256 + b6) * 256 + b7 in

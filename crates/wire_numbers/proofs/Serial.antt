@@ -2,7 +2,7 @@
 use Rattle.std.proofs.Common.{◌≡◌, ℕ, zero, suc, ◌*◌, ◌/◌, ◌%◌, ◌^◌, ◌<◌, List, [], ◌∷◌, ◌++◌, length, get_or}
 use Rattle.std.proofs.Common.{sym, refl, ap, ◌∙◌, ap₂, append_assoc, suc-le-suc, zero-lt-suc, arith}
 use lib.Bits.{bit_xor, xor_lt, xor_mod, xor_shifted, xor_zero_r}
-use Rattle.laws.specs.Fold.{fold}
+use Rattle.std.specs.Prelude.{fold}
 use Rattle.laws.proofs.Folds.{parts}
 use Rattle.laws.proofs.Upto.{every, every_list}
 use Rattle.laws.proofs.Xor.{digit, xor_assoc}
@@ -82,7 +82,7 @@ gone zero v = v
 gone (suc n) v = gone n (v * 2 % 65536)
 
 enters : (n c v : ℕ) → c < 65536 → v < 65536 → shifts n (bit_xor c v) ≡ bit_xor (fold entered c (tops n v)) (gone n v)
-unfolding shifts tops gone fold
+unfolding shifts tops gone
 enters zero c v hc hv = refl
 enters (suc n) c v hc hv =
     ap (shifts n) (enter c v hc hv) ∙
@@ -93,7 +93,7 @@ unfolding crc_byte tops gone bits
 byte_bits c b hc hb =
     let t : tops 8 (b * 256) ≡ bits 8 b = every_list (λ b. tops 8 (b * 256)) (bits 8) 256 tt b hb in
     let g : gone 8 (b * 256) ≡ 0 = every (λ b. gone 8 (b * 256)) (λ b. 0) 256 tt b hb in
-    enters 8 c (b * 256) hc (omega arith) ∙ rw (t, g) (xor_zero_r (fold entered c (bits 8 b)))
+    enters 8 c (b * 256) hc (omega arith) ∙ ap₂ (λ (x : List ℕ) (y : ℕ). bit_xor (fold entered c x) y) t g ∙ xor_zero_r (fold entered c (bits 8 b))
 
 shifts_lt : (n a : ℕ) → a < 65536 → shifts n a < 65536
 unfolding shifts
@@ -112,7 +112,7 @@ crc_cons c b l hc hb =
 
 -- a whole message: the working form is the textbook's
 pub serial : (c : ℕ) (l : List ℕ) → c < 65536 → ((i : ℕ) → i < length l → get_or l i 0 < 256) → crc_bytes c l ≡ crc_from c l
-unfolding crc_from bits_of fold
+unfolding crc_from bits_of
 serial c [] hc h = refl
 serial c (b ∷ l) hc h =
     let hb : b < 256 = h 0 (zero-lt-suc (length l)) in
@@ -129,17 +129,17 @@ crc_parts c l m = ap (fold entered c) (joined l) ∙ parts entered c (bits_of l)
 
 -- the published check value, of the ASCII text 123456789 (01, Build constants)
 check_value : crc_from 0xFFFF (49 ∷ 50 ∷ 51 ∷ 52 ∷ 53 ∷ 54 ∷ 55 ∷ 56 ∷ 57 ∷ []) ≡ 0x29B1
-unfolding crc_from bits_of bits entered fold
+unfolding crc_from bits_of bits entered
 check_value = refl
 
 -- the register stays within 16 bits, whatever the message
 small_bits : (n c b : ℕ) → c < 65536 → fold entered c (bits n b) < 65536
-unfolding bits fold
+unfolding bits
 small_bits zero c b h = h
 small_bits (suc n) c b h = small_bits n (entered c (b / 2 ^ n % 2)) b (entered_lt c (b / 2 ^ n % 2) h (omega arith))
 
 pub crc_small : (c : ℕ) (l : List ℕ) → c < 65536 → crc_from c l < 65536
-unfolding crc_from bits_of fold
+unfolding crc_from bits_of
 crc_small c [] h = h
 crc_small c (b ∷ l) h =
     rw (parts entered c (bits 8 b) (bits_of l)) (crc_small (fold entered c (bits 8 b)) l (small_bits 8 c b h))

@@ -2,7 +2,7 @@
 -- bits shifts left, and where the bit that falls out differs from the bit that enters, the polynomial is xored in. No final xor.
 use Rattle.std.specs.Prelude.{ℕ, zero, suc, ◌*◌, ◌/◌, ◌%◌, ◌^◌, List, [], ◌∷◌, ◌++◌, ◌==◌, bit_xor}
 use Rattle.laws.specs.Pick.{pick}
-use Rattle.laws.specs.Fold.{fold}
+use Rattle.std.specs.Prelude.{fold}
 
 -- the register c after one bit m more; the polynomial is 0x1021
 unfoldable pub entered : ℕ → ℕ → ℕ

@@ -1,6 +1,6 @@
 -- How the code works the CRC out: a byte enters at the register's high end, and eight steps follow. proofs/Serial.antt shows it to be the textbook's.
 use Rattle.std.specs.Prelude.{ℕ, zero, suc, ◌*◌, ◌/◌, ◌%◌, ◌^◌, List, bit_xor}
-use Rattle.laws.specs.Fold.{fold}
+use Rattle.std.specs.Prelude.{fold}
 
 -- shifted left by one; where the bit that fell out was set, the polynomial is xored in
 unfoldable pub shift1 : ℕ → ℕ

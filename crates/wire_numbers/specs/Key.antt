@@ -1,7 +1,7 @@
 -- FNV-1a at 32 bits, by its public definition, and the key made of it.
 use Rattle.std.specs.Prelude.{ℕ, ◌*◌, ◌%◌, ◌^◌, List, ◌==◌, bit_xor}
 use Rattle.laws.specs.Pick.{pick}
-use Rattle.laws.specs.Fold.{fold}
+use Rattle.std.specs.Prelude.{fold}
 
 -- 01, Record, flash, start: the byte is xored in, then the product with the prime is kept modulo 2^32
 abbrev pub fnv_step : ℕ → ℕ → ℕ

@@ -217,6 +217,7 @@ fn fnv_step(h: u32, b: u8) -> u32
 }
 
 // The key of a name: its FNV-1a hash, and never COMPAT_UNSET.
+#[tactic(auto, unfolding(crate::specs::Key::key_of))]
 pub fn compat_key(name: &[u8]) -> u32
     ensures { result ≡ key_of name.now }
 {
