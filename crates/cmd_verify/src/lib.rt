@@ -2,16 +2,16 @@
 
 #![tactic(auto)]
 
-ghost use Rattle.std.specs.Prelude.{◌≡◌, ◌+◌, ◌^◌, ◌<◌};
+ghost use Rattle.std.specs.Prelude.{◌≡◌};
 ghost use Rattle.wire_numbers.specs.Names.{status_number};
-ghost use Rattle.cmd_verify.specs.Verify.{key_at, key_in, key_fits, verified_to, verify_of};
+ghost use Rattle.cmd_verify.specs.Verify.{key_at, key_fits, verified_to, verify_of};
 
-use store_flash::cells::{byte_at, first};
+use store_flash::cells::{first, four_at};
 use store_record::boot_meta_store;
 use store_record::traits::BootState;
 use wire_frames::fields;
 use wire_frames::frame::FrameBytes;
-use wire_numbers::{COMPAT_UNSET, Status, crc, le};
+use wire_numbers::{COMPAT_UNSET, Status, crc};
 
 // How a Verify went, and the CRC that it replies: 0 where it is refused.
 #[derive(Clone, Copy)]
@@ -28,18 +28,6 @@ fn key_place(size: u32) -> u32
     std::num::wrapping_sub_u32(size, 6)
 }
 
-fn key_of(flash: &[u8], at: usize) -> u32
-    requires { at < 2 ^ 32 }
-    ensures { result ≡ key_in flash.now at }
-{
-    le::read32(
-        byte_at(flash, at),
-        byte_at(flash, at + 1),
-        byte_at(flash, at + 2),
-        byte_at(flash, at + 3),
-    )
-}
-
 // Whether the image is for this device.
 fn key_fits(key: u32, capacity: usize, flash: &[u8], size: u32) -> bool
     ensures { result ≡ key_fits key capacity flash.now size }
@@ -47,14 +35,14 @@ fn key_fits(key: u32, capacity: usize, flash: &[u8], size: u32) -> bool
     if key == COMPAT_UNSET {
         return true;
     }
-    let at = key_place(size) as usize;
+    let at = key_place(size);
     if at % 4 != 0 {
         return false;
     }
-    if capacity <= at {
+    if capacity <= at as usize {
         return false;
     }
-    key_of(flash, at) == key
+    four_at(flash, at) == key
 }
 
 // The address is the size. Nothing is compared with the CRC: the host does that.

@@ -1,8 +1,13 @@
 -- The flash: a page write and an erase (01, Record, flash, start; Commands).
-use Rattle.std.specs.Prelude.{ℕ, zero, suc, ◌+◌, ◌-◌, ◌%◌, List, [], ◌∷◌, Bool, ◌||◌, not, length, ltb, eqb, if◌then◌else◌, Result, Ok, Err, ⊤}
+use Rattle.std.specs.Prelude.{ℕ, zero, suc, ◌+◌, ◌-◌, ◌%◌, List, [], ◌∷◌, Bool, ◌||◌, not, length, get_or, ltb, eqb, if◌then◌else◌, Result, Ok, Err, ⊤}
 use Rattle.std.specs.Int.Bits.{bit_and}
+use Rattle.laws.specs.Low.{low_first}
 use Rattle.store_flash.specs.declared.storage.FlashError.{FlashError}
 use Rattle.store_flash.specs.declared.storage.FlashError.TheVariants.{NotAligned, OutOfBounds}
+
+-- the number of the four bytes from `at` on, low byte first; a byte past the end reads as 0xFF
+abbrev pub four_at : List ℕ → ℕ → ℕ
+four_at s at = low_first (get_or s at 0xFF ∷ get_or s (at + 1) 0xFF ∷ get_or s (at + 2) 0xFF ∷ get_or s (at + 3) 0xFF ∷ [])
 
 -- a write can only clear bits: the bytes d are ANDed in from the cell `at` on, every other cell is kept (01, Record, flash, start)
 unfoldable pub written : List ℕ → ℕ → List ℕ → List ℕ

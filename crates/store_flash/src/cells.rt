@@ -2,12 +2,28 @@
 
 ghost use Rattle.std.specs.Prelude.{◌≡◌, get_or, take, set};
 ghost use Rattle.std.proofs.lemmas.List.Edits.{sets};
+ghost use Rattle.store_flash.specs.Flash.{four_at};
+
+use wire_numbers::le;
 
 // A byte past the end reads as an erased cell.
 pub fn byte_at(s: &[u8], at: usize) -> u8
     ensures { result ≡ get_or s.now at 0xFF }
 {
     s.get(at).copied().unwrap_or(0xFF)
+}
+
+// Four bytes from a place on, low byte first. The place is a u32, so that the fourth is in range of a usize.
+pub fn four_at(s: &[u8], at: u32) -> u32
+    ensures { result ≡ four_at s.now at }
+{
+    let at = at as usize;
+    le::read32(
+        byte_at(s, at),
+        byte_at(s, at + 1),
+        byte_at(s, at + 2),
+        byte_at(s, at + 3),
+    )
 }
 
 // The first n bytes, or all of them where there are fewer.

@@ -9,7 +9,7 @@ ghost use Rattle.store_record.specs.Record.{half, advanced, trial_used, row_set,
 
 use crate::rewrite::{RECORD, Record, STEPS, rewrite_steps};
 use crate::traits::BootState;
-use store_flash::cells::{byte_at, lay, put};
+use store_flash::cells::{byte_at, four_at, lay, put};
 use wire_numbers::le;
 
 // Where the fields stand; 10 and 11 are reserved, and kept.
@@ -53,12 +53,7 @@ pub fn app_checksum(meta: &[u8]) -> u16
 pub fn app_size(meta: &[u8]) -> u32
     ensures { result ≡ size_of meta.now }
 {
-    le::read32(
-        byte_at(meta, SIZE),
-        byte_at(meta, SIZE + 1),
-        byte_at(meta, SIZE + 2),
-        byte_at(meta, SIZE + 3),
-    )
+    four_at(meta, SIZE as u32)
 }
 
 pub fn baud(meta: &[u8]) -> u8

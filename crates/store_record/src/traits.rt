@@ -3,8 +3,7 @@
 ghost use Rattle.std.specs.Prelude.{◌≡◌};
 ghost use Rattle.store_record.specs.State.{state_byte, state_read, app_present};
 
-use store_flash::cells::byte_at;
-use wire_numbers::le;
+use store_flash::cells::four_at;
 
 // The stages of an update. Each byte is the one before with a 1 cleared: x & x >> 1.
 #[derive(Clone, Copy, Debug, PartialEq, Eq)]
@@ -41,13 +40,5 @@ impl BootState {
 pub fn app_present(flash: &[u8]) -> bool
     ensures { result ≡ app_present flash.now }
 {
-    if flash.len() < 4 {
-        return false;
-    }
-    le::read32(
-        byte_at(flash, 0),
-        byte_at(flash, 1),
-        byte_at(flash, 2),
-        byte_at(flash, 3),
-    ) != 0xFFFF_FFFF
+    4 <= flash.len() && four_at(flash, 0) != 0xFFFF_FFFF
 }

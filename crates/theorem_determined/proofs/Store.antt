@@ -13,6 +13,9 @@ use Rattle.store_rate.specs.contracts as store_rate_contracts
 pub byte_at : Determined store_flash_contracts.cells.byte_at.ended store_flash.cells.byte_at.Reads.Post
 byte_at κs a o o' p q i = (plain p q i, o.1)
 
+pub four_at : Determined store_flash_contracts.cells.four_at.ended store_flash.cells.four_at.Reads.Post
+four_at κs a o o' p q i = (plain p q i, o.1)
+
 -- it answers a reference
 pub first : DeterminedBehind store_flash_contracts.cells.first.ended (λ κs r. r.now) store_flash.cells.first.Reads.Post
 first κs a o o' p q i = (plain p q i, o.1)

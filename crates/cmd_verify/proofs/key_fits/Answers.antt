@@ -21,4 +21,4 @@ pub returns : goal.returns
 returns c =
     let a = c.args in
     fits-compared a.key a.capacity a.flash.now a.size c.if-key-eq-COMPAT_UNSET.false
-    _ c.key_place-at.ensures c.if-at-ne0.false c.if-capacity-at.false _ c.key_of.ensures
+    _ c.key_place-at.ensures c.if-at-ne0.false c.if-capacity-at.false _ c.four_at.ensures

@@ -8,6 +8,7 @@ use lib.ListN.{length, get_or}
 use lib.Dec.{eqb}
 use borrow.Author.Tests.{le-leb, lt-leb, eq-eqb, ne_eqb, eqb-true, eqb-false}
 use Rattle.laws.specs.Low.{low_first}
+use Rattle.store_flash.specs.Flash.{four_at}
 use Rattle.store_record.specs.State.{app_present}
 use borrow.Author.Rules.{rules}
 use Rattle.store_record.proofs.traits.app_present.Goals as goal
@@ -33,18 +34,17 @@ word a b c d ha hb hc =
     ∙ ap (λ (t : Bool). eqb a 255 && t)
     (apart b _ 0xFFFF hb ∙ ap (λ (t : Bool). eqb b 255 && t) (apart c _ 0xFF hc ∙ ap (λ (n : ℕ). eqb c 255 && eqb n 255) e))
 
-present : (f : List ℕ) (w a b c d : ℕ) → 4 ≤ length f → a < 256 → b < 256 → c < 256 → a ≡ get_or f 0 0xFF → b ≡ get_or f 1 0xFF → c ≡ get_or f 2 0xFF
-    → d ≡ get_or f 3 0xFF → w ≡ low_first (a ∷ b ∷ c ∷ d ∷ []) → not (eqb w 0xFFFFFFFF) ≡ app_present f
+present : (f : List ℕ) → ((k : ℕ) → get_or f k 0 < 256) → 4 ≤ length f → not (eqb (four_at f 0) 0xFFFFFFFF) ≡ app_present f
 unfolding app_present
-present f w a b c d l ha hb hc ea eb ec ed ew =
-    rw (ew, word a b c d ha hb hc, le-leb 4 (length f) l, ← ea, ← eb, ← ec, ← ed)
+present [] b l = absurd (omega arith)
+present (x ∷ []) b l = absurd (omega arith)
+present (x ∷ y ∷ []) b l = absurd (omega arith)
+present (x ∷ y ∷ z ∷ []) b l = absurd (omega arith)
+present (x ∷ y ∷ z ∷ v ∷ f) b l = rw (word x y z v (b 0) (b 1) (b 2), le-leb 4 (length (x ∷ y ∷ z ∷ v ∷ f)) l) refl
 
-pub returns-then-flash-lt4 : goal.returns-then-flash-lt4
+pub returns-then-flash-ge4 : goal.returns-then-flash-ge4
+returns-then-flash-ge4 c = rw c.four_at.ensures (present c.args.flash.now (λ k. search rules) c.if-flash-ge4.true)
+
+pub returns-else-flash-ge4 : goal.returns-else-flash-ge4
 unfolding app_present
-returns-then-flash-lt4 c = simp (lt-leb 4 (length c.args.flash.now) c.if-flash-lt4.true)
-
-pub returns : goal.returns
-returns c =
-    present _ _ _ _ _ _ c.if-flash-lt4.false (search rules) (search rules) (search rules)
-    c.byte_at.ensures c.byte_at-2.ensures c.byte_at-3.ensures c.byte_at-4.ensures
-    c.read32.ensures
+returns-else-flash-ge4 c = simp (lt-leb 4 (length c.args.flash.now) c.if-flash-ge4.false)
