@@ -2,7 +2,7 @@
 
 #![tactic(auto)]
 
-ghost use Rattle.std.specs.Prelude.{◌≡◌, length};
+ghost use Rattle.std.specs.Prelude.{◌≡◌};
 ghost use Rattle.cmd_info.specs.Info.{app_version, info_told, info_of, info_laid};
 
 use store_flash::cells::byte_at;
@@ -29,8 +29,7 @@ fn app_version(capacity: usize, flash: &[u8], meta: &[u8]) -> u16
 }
 
 // The reply's bytes over the data area.
-fn lay(f: &mut [u8], new: &[u8])
-    requires { (length f.old ≡ 64) × (length new.now ≡ 18) }
+fn lay(f: &mut FrameBytes, new: &[u8; 18])
     ensures { f.new ≡ info_laid f.old new.now }
 {
     f[10..28].copy_from_slice(new);

@@ -36,7 +36,7 @@ fn wide(x: u8) -> u32
 // One pass compares the prefix and copies the id over it for the reply: a byte of the prefix is read before the byte two places before it is
 // written. Bits left after the id mean a prefix longer than the id, which matches nothing.
 fn pass(uid: &[u8], f: &mut FrameBytes) -> bool
-    requires { (length uid.now ≤ 16) × (length f.old ≡ 64) }
+    requires { length uid.now ≤ 16 }
     ensures { (result ≡ matches (bit_count_of f.old) uid.now (prefix_of f.old)) ×
         (f.new ≡ copied uid.now f.old) }
 {
@@ -62,8 +62,7 @@ fn slot(seed: u8, uid: &[u8]) -> u8
 }
 
 // The seed, read before the id is copied over it.
-fn seed_of(f: &[u8]) -> u8
-    requires { length f.now ≡ 64 }
+fn seed_of(f: &FrameBytes) -> u8
     ensures { result ≡ seed_of f.now }
 {
     f[10]

@@ -23,10 +23,10 @@ module _ (f : List ℕ) (l : length f ≡ 64) (len : ℕ) (e : len ≡ len_of f)
   pub data_part : take (10 + len - 10) (drop 10 f) ≡ data_of f
   data_part = let k : 10 + len - 10 ≡ len_of f = omega arith in rw k refl
 
-  pub data_all : 54 ≤ len → take (length f - 10) (drop 10 f) ≡ data_of f
+  pub data_all : 54 ≤ len → take 54 (drop 10 f) ≡ data_of f
   data_all h =
       let d : length (drop 10 f) ≡ 54 = length-drop 10 f ∙ ap (λ (k : ℕ). k - 10) l in
-      take_all (length f - 10) (drop 10 f) (omega arith) ∙ sym (take_all (len_of f) (drop 10 f) (omega arith))
+      take_all 54 (drop 10 f) (omega arith) ∙ sym (take_all (len_of f) (drop 10 f) (omega arith))
 
 -- where it may stand
 module _ (capacity : ℕ) (f : List ℕ) (next addr len : ℕ) (a : addr ≡ addr_of f) (l : len ≡ len_of f) where

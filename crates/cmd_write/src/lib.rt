@@ -36,7 +36,7 @@ pub struct Ran {
 }
 
 // The first n bytes of the page are written, to where they belong before the next byte.
-fn page_out(w: Run, n: u32, page: &[u8], flash: &mut [u8]) -> Run
+fn page_out(w: Run, n: u32, page: &Page, flash: &mut [u8]) -> Run
     requires { n ≤ w.next }
     ensures { running flash.new page.now result.fill result.next result.failed ≡
         page_out 64 n (running flash.old page.now w.fill w.next w.failed) }
@@ -50,17 +50,16 @@ fn page_out(w: Run, n: u32, page: &[u8], flash: &mut [u8]) -> Run
 }
 
 // m bytes from the i-th on, laid in the page from a place on.
-fn lay(page: &mut [u8], at: u32, d: &[u8], i: u32, m: u32)
-    requires { (length page.old ≡ 64) × (at + m ≤ 64) × (i + m ≤ length d.now) × (length d.now ≤ 54) }
+fn lay(page: &mut Page, at: u32, d: &[u8], i: u32, m: u32)
+    requires { (at + m ≤ 64) × (i + m ≤ length d.now) × (length d.now ≤ 54) }
     ensures { page.new ≡ paste page.old at (drop i d.now) m }
 {
     page[at as usize..(at + m) as usize].copy_from_slice(&d[i as usize..(i + m) as usize]);
 }
 
 // m bytes more, from the i-th on, for which the page has room.
-fn took(w: Run, d: &[u8], i: u32, m: u32, page: &mut [u8], flash: &mut [u8]) -> Run
-    requires { (0 < m) × (w.fill + m ≤ 64) × (i + m ≤ length d.now) × (w.fill ≤ w.next) × (w.next < 2 ^ 25) × (length page.old ≡ 64) ×
-        (length d.now ≤ 54) }
+fn took(w: Run, d: &[u8], i: u32, m: u32, page: &mut Page, flash: &mut [u8]) -> Run
+    requires { (0 < m) × (w.fill + m ≤ 64) × (i + m ≤ length d.now) × (w.fill ≤ w.next) × (w.next < 2 ^ 25) × (length d.now ≤ 54) }
     ensures { running flash.new page.new result.fill result.next result.failed ≡
         poured 64 (running flash.old page.old w.fill w.next w.failed) (take m (drop i d.now)) }
 {
@@ -88,7 +87,7 @@ fn over(w: Run) -> Run
 }
 
 // What is left of the page is written, and the run ends.
-fn flush(w: Run, page: &[u8], flash: &mut [u8]) -> Run
+fn flush(w: Run, page: &Page, flash: &mut [u8]) -> Run
     requires { w.fill ≤ w.next }
     ensures { running flash.new page.now result.fill result.next result.failed ≡
         flushed 64 (running flash.old page.now w.fill w.next w.failed) }
@@ -100,8 +99,7 @@ fn flush(w: Run, page: &[u8], flash: &mut [u8]) -> Run
 }
 
 // A frame of a length above 54 has no more data than that.
-fn data_of<'a>(f: &'a [u8]) -> &'a [u8]
-    requires { length f.now ≡ 64 }
+fn data_of<'a>(f: &'a FrameBytes) -> &'a [u8]
     ensures { result.now ≡ data_of f.now }
 {
     let len = le::read16(f[8], f[9]) as usize;
@@ -112,8 +110,7 @@ fn data_of<'a>(f: &'a [u8]) -> &'a [u8]
 }
 
 // Where a write may stand: with none pending at a page's start, else where the last one ended.
-fn fits(capacity: usize, f: &[u8], next: u32) -> bool
-    requires { length f.now ≡ 64 }
+fn fits(capacity: usize, f: &FrameBytes, next: u32) -> bool
     ensures { result ≡ write_fits 64 capacity f.now next }
 {
     let addr = le::read24(f[4], f[5], f[6]);
@@ -149,8 +146,8 @@ fn room(fill: u32, n: u32) -> u32
 }
 
 // The data: what the page has room for, and then what is left.
-fn poured(d: &[u8], start: Run, page: &mut [u8], flash: &mut [u8]) -> Run
-    requires { (length d.now ≤ 54) × (start.fill < 64) × (start.fill ≤ start.next) × (start.next < 2 ^ 24) × (length page.old ≡ 64) }
+fn poured(d: &[u8], start: Run, page: &mut Page, flash: &mut [u8]) -> Run
+    requires { (length d.now ≤ 54) × (start.fill < 64) × (start.fill ≤ start.next) × (start.next < 2 ^ 24) }
     ensures { running flash.new page.new result.fill result.next result.failed ≡
         poured 64 (running flash.old page.old start.fill start.next start.failed) d.now }
 {
@@ -166,8 +163,7 @@ fn poured(d: &[u8], start: Run, page: &mut [u8], flash: &mut [u8]) -> Run
 }
 
 // The bytes of a Write that fits.
-fn written(f: &[u8], page: &mut [u8], flash: &mut [u8]) -> Run
-    requires { (length f.now ≡ 64) × (length page.old ≡ 64) }
+fn written(f: &FrameBytes, page: &mut Page, flash: &mut [u8]) -> Run
     ensures { running flash.new page.new result.fill result.next result.failed ≡
         written_of 64 f.now (begin 64 f.now flash.old page.old) }
 {

@@ -6,6 +6,7 @@ use lib.Seq.{paste-zero, paste-suc}
 use Rattle.cmd_select.specs.Select.{bit_count_of, prefix_of}
 use Rattle.cmd_select.proofs.PrefixBytes.{past, turn, first, last}
 use native.Mathlib.Omega.{arith}
+use borrow.Author.Rules.{rules}
 use Rattle.cmd_select.proofs.pass.Goals as goal
 
 pub loop-i-init : goal.loop-i-init
@@ -21,7 +22,7 @@ pub loop-i-preserved : goal.loop-i-preserved
 loop-i-preserved c =
     let a = c.args in
     let v = c.loop-i in
-    let l : length a.f.now ≡ 64 = c.requires.1 in
+    let l : length a.f.now ≡ 64 = search rules in
     let n = c.at_most_8-n in (
       omega arith,
       omega arith,

@@ -6,11 +6,6 @@ use Rattle.cmd_select.proofs.PrefixBytes.{yes, no}
 use borrow.Author.Rules.{rules}
 use Rattle.cmd_select.proofs.select_uid.Goals as goal
 
-pub pass-requires : goal.pass-requires
-pass-requires c =
-    let l : length c.args.f.now ≡ 64 = search rules in
-    (c.requires, l)
-
 pub returns-then-pass : goal.returns-then-pass
 returns-then-pass c =
     let a = c.args in

@@ -2,6 +2,7 @@ use mathlib.Core.Path.{refl}
 use Rattle.cmd_write.specs.Write.{running}
 use Rattle.cmd_write.proofs.Writing.{pour_again, pour_done}
 use native.Mathlib.Omega.{arith}
+use borrow.Author.Rules.{rules}
 use Rattle.cmd_write.proofs.poured.Goals as goal
 
 pub loop-i-init : goal.loop-i-init
@@ -11,7 +12,7 @@ loop-i-init c =
       within = omega arith;
       stands = record { below = p.1; back = p.2 };
       near = omega arith;
-      long = p.4;
+      long = search rules;
       kept = refl;
       rest = refl;
     }
@@ -24,7 +25,7 @@ took-w-requires c =
     let v = c.loop-i.invariant in
     let p = c.requires in
     let e = c.room-m.ensures in
-    (e.0, e.1, omega (arith, e.2, c.loop-i-test.true), v.stands.back, omega (arith, v.near, v.within, p.0, p.3), v.long, p.0)
+    (e.0, e.1, omega (arith, e.2, c.loop-i-test.true), v.stands.back, omega (arith, v.near, v.within, p.0, p.3), p.0)
 
 pub overflow_add-i : goal.overflow_add-i
 overflow_add-i c =

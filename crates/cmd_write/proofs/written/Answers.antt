@@ -1,12 +1,13 @@
 use Rattle.cmd_write.proofs.Writing.{data_short, written_back, written_flush, written_on}
 use native.Mathlib.Omega.{arith}
+use borrow.Author.Rules.{rules}
 use Rattle.cmd_write.proofs.written.Goals as goal
 
 pub poured-w-requires : goal.poured-w-requires
 poured-w-requires c =
-    let k = c.type_inv.f in
+    let k = c.fits-f in
     let e = c.read24-addr.ensures in
-    (data_short c.args.f.now _ c.requires.0 c.data_of.ensures, omega arith, omega arith, omega (arith, e, k 4, k 5, k 6), c.requires.1)
+    (data_short c.args.f.now _ (search rules) c.data_of.ensures, omega arith, omega arith, omega (arith, e, k 4, k 5, k 6))
 
 pub flush-requires-then-flush : goal.flush-requires-then-flush
 flush-requires-then-flush c =
