@@ -24,34 +24,6 @@ use Rattle.store_record.proofs.Record.{advanced-length, refreshed-length, advanc
 use Rattle.wire_frames.specs.Fields.{addr_of, Ok, WriteError, AddrOutOfBounds}
 use Rattle.cmd_erase.specs.Erase.{Erased, byte_count_of, range_fits, readied, erased_to, erased_by, erase_of}
 
--- the address a and the count n apart from the frame
-tested : (erase capacity : ℕ) (f : List ℕ) (a n : ℕ) → a ≡ addr_of f → n ≡ byte_count_of f →
-    ltb 0 erase && (eqb (a % erase) 0 && (eqb (n % erase) 0 && (not (eqb n 0) && leb (a + n) capacity))) ≡ range_fits erase capacity f
-unfolding range_fits
-tested erase capacity f a n ea en = rw (ea, en) refl
-
-module _ (erase capacity : ℕ) (f : List ℕ) (a n : ℕ) (ea : a ≡ addr_of f) (en : n ≡ byte_count_of f) where
-  pub fits_none : erase ≡ 0 → false ≡ range_fits erase capacity f
-  fits_none w = simp (le-ltb 0 erase (omega arith)) at (tested erase capacity f a n ea en)
-
-  module _ (w : erase ≡ 0 → ⊥) where
-    some : ltb 0 erase ≡ true
-    some = lt-ltb 0 erase (omega arith)
-
-    pub fits_place : (a % erase ≡ 0 → ⊥) → false ≡ range_fits erase capacity f
-    fits_place p = simp (some, ne_eqb (a % erase) 0 p) at (tested erase capacity f a n ea en)
-
-    module _ (p : a % erase ≡ 0) where
-      pub fits_count : (n % erase ≡ 0 → ⊥) → false ≡ range_fits erase capacity f
-      fits_count q = simp (some, eq-eqb (a % erase) 0 p, ne_eqb (n % erase) 0 q) at (tested erase capacity f a n ea en)
-
-      module _ (q : n % erase ≡ 0) where
-        pub fits_empty : n ≡ 0 → false ≡ range_fits erase capacity f
-        fits_empty z = simp (some, eq-eqb (a % erase) 0 p, eq-eqb (n % erase) 0 q, eq-eqb n 0 z) at (tested erase capacity f a n ea en)
-
-        pub fits_end : (n ≡ 0 → ⊥) → leb (a + n) capacity ≡ range_fits erase capacity f
-        fits_end z = simp (some, eq-eqb (a % erase) 0 p, eq-eqb (n % erase) 0 q, ne_eqb n 0 z) at (tested erase capacity f a n ea en)
-
 -- s is the state as it was read
 module _ (meta : List ℕ) (s : ℕ) (e : s ≡ state_read (state_of meta)) where
   pub ready_idle : s ≡ 0xFF → advanced meta ≡ readied meta

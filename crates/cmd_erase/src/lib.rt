@@ -21,27 +21,21 @@ fn byte_count(f: &FrameBytes) -> u16
 }
 
 // Whole erase blocks, at least one, within the capacity.
+#[tactic(auto, unfolding(crate::specs::Erase::range_fits))]
 fn in_range(erase_size: usize, capacity: usize, f: &FrameBytes) -> bool
     ensures { result ≡ range_fits erase_size capacity f.now }
 {
     let addr = fields::addr(f) as usize;
     let count = byte_count(f) as usize;
-    if erase_size == 0 {
-        return false;
-    }
-    if addr % erase_size != 0 {
-        return false;
-    }
-    if count % erase_size != 0 {
-        return false;
-    }
-    if count == 0 {
-        return false;
-    }
-    addr + count <= capacity
+    0 < erase_size
+        && addr % erase_size == 0
+        && count % erase_size == 0
+        && count != 0
+        && addr + count <= capacity
 }
 
 // The record says Updating before a cell is erased.
+#[tactic(auto, unfolding(crate::specs::Erase::readied))]
 fn ready(meta: &mut [u8])
     ensures { meta.new ≡ readied meta.old }
 {

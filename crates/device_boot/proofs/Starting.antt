@@ -28,11 +28,6 @@ module _ (careful : Bool) (capacity : ℕ) (flash meta : List ℕ) where
   unfolding valid_of
   valid_long e h = simp (ne_eqb _ _ e, lt-leb _ _ h)
 
-  pub valid_crc : (checksum_of meta ≡ 0xFFFF → ⊥) → size_of meta ≤ capacity →
-      valid_of careful capacity flash meta ≡ eqb (crc_of (take (size_of meta) flash)) (checksum_of meta)
-  unfolding valid_of
-  valid_crc e h = simp (ne_eqb _ _ e, le-leb _ _ h)
-
 not_off : (b : Bool) → not b ≡ false → b ≡ true
 not_off true e = refl
 not_off false e = cc
@@ -63,21 +58,6 @@ module _ (meta : List ℕ) where
     pub clear_idle : s ≡ 0xFF → clears true meta ≡ cleared_of meta
     unfolding cleared_of
     clear_idle w = rw (← e, w) refl
-
-module _ (careful : Bool) (capacity : ℕ) (flash meta : List ℕ) where
-  pub start_asked : stays meta ≡ start_of careful capacity 1 flash meta
-  unfolding start_of
-  start_asked = refl
-
-  -- c is the record once a trial is used, b whether the start goes on
-  pub start_stays : (b : Bool) (c : List ℕ) → clears b c ≡ cleared_of meta → b ≡ false → stays c ≡ start_of careful capacity 0 flash meta
-  unfolding start_of
-  start_stays b c e w = let x : cleared_of meta ≡ clears false c = sym (rw w at e) in simp x
-
-  pub start_judged : (b : Bool) (c : List ℕ) → clears b c ≡ cleared_of meta → b ≡ true → (v : Bool) → v ≡ valid_of careful capacity flash c →
-      pick v (record { mode = 0; meta = c }) (stays c) ≡ start_of careful capacity 0 flash meta
-  unfolding start_of
-  start_judged b c e w v k = let x : cleared_of meta ≡ clears true c = sym (rw w at e) in rw (x, k) refl
 
 -- of the record nothing but the trials byte changes
 pub start_record : (careful : Bool) (capacity mode : ℕ) (flash meta : List ℕ) →

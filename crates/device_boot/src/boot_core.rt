@@ -11,24 +11,20 @@ use wire_numbers::{RunMode, crc};
 
 // Whether the image may run. The CRC covers the stored size only, not the whole flash. With no CRC stored a careful start does not look for an app: an erased
 // record is no more than a rewrite that was cut.
+#[tactic(auto, unfolding(crate::specs::Start::valid_of))]
 fn validate_app(careful: bool, capacity: usize, flash: &[u8], meta: &[u8]) -> bool
     ensures { result ≡ valid_of careful capacity flash.now meta.now }
 {
     let stored = boot_meta_store::app_checksum(meta);
     if stored == 0xFFFF {
-        if careful {
-            return false;
-        }
-        return traits::app_present(flash);
+        return !careful && traits::app_present(flash);
     }
     let size = boot_meta_store::app_size(meta) as usize;
-    if capacity < size {
-        return false;
-    }
-    crc::crc16(crc::CRC_INIT, first(flash, size)) == stored
+    size <= capacity && crc::crc16(crc::CRC_INIT, first(flash, size)) == stored
 }
 
 // A trial is used where one is left; whether one was.
+#[tactic(auto, unfolding(crate::specs::Start::tried_of))]
 fn use_trial(meta: &mut [u8]) -> bool
     ensures { clears result meta.new ≡ tried_of meta.old }
 {
@@ -40,6 +36,7 @@ fn use_trial(meta: &mut [u8]) -> bool
 }
 
 // Whether the record lets a start go on to the image.
+#[tactic(auto, unfolding(crate::specs::Start::cleared_of))]
 fn cleared(meta: &mut [u8]) -> bool
     ensures { clears result meta.new ≡ cleared_of meta.old }
 {
@@ -52,6 +49,7 @@ fn cleared(meta: &mut [u8]) -> bool
 }
 
 // What a start decides. Of the record nothing but the trials byte changes.
+#[tactic(auto, unfolding(crate::specs::Start::start_of))]
 pub fn check_boot_state(
     careful: bool,
     capacity: usize,
@@ -61,13 +59,11 @@ pub fn check_boot_state(
 ) -> RunMode
     ensures { decided result meta.new ≡ start_of careful capacity (mode_number mode) flash.now meta.old }
 {
-    if let RunMode::Service = mode {
+    if mode == RunMode::Service {
         return RunMode::Service;
     }
-    if cleared(meta) {
-        if validate_app(careful, capacity, flash, meta) {
-            return RunMode::HandOff;
-        }
+    if cleared(meta) && validate_app(careful, capacity, flash, meta) {
+        return RunMode::HandOff;
     }
     RunMode::Service
 }
