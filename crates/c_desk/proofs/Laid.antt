@@ -6,19 +6,19 @@ use borrow.Author.Tests.{lt-ltb, le-ltb}
 use lib.ListN.{length, get_or}
 use Rattle.laws.specs.Low.{low_bytes}
 use Rattle.laws.specs.Over.{over}
-use Rattle.desk_captures.specs.declared.Found.{Found}
+use Rattle.desk_captures.specs.declared.Record.{Record}
 use Rattle.desk_captures.specs.declared.Compared.{Compared}
-use Rattle.desk_captures.specs.Captures.{next_at, number_of, mark_of, start_of, size_of, after_at, compare_of}
-use Rattle.c_desk.specs.Captures.{told, told_in, found_bytes, c_next, compared_number, compared_capture, compared_place, compared_bytes, c_compared}
+use Rattle.desk_captures.specs.Captures.{Found, next_at, number_of, after_at, compare_of}
+use Rattle.c_desk.specs.Captures.{told, told_in, record_of, found_bytes, c_next, compared_number, compared_capture, compared_place, compared_bytes, c_compared}
 
 -- a place's bytes, one by one
-abbrev eight : List ℕ → List ℕ → List ℕ
+abbrev pub eight : List ℕ → List ℕ → List ℕ
 eight s l = get_or s 0 0 ∷ get_or s 1 0 ∷ get_or s 2 0 ∷ get_or s 3 0 ∷ get_or s 4 0 ∷ get_or s 5 0 ∷ get_or s 6 0 ∷ get_or s 7 0 ∷ l
 
 -- the bytes, of their parts
-pub found-laid : (f : Found) (after n at k m : ℕ) (s a : List ℕ) → n ≡ size_of f → at ≡ start_of f → s ≡ low_bytes 8 at → a ≡ low_bytes 8 after →
-    k ≡ number_of f → m ≡ mark_of f → k ∷ m ∷ (low_bytes 2 n ++ (0 ∷ 0 ∷ 0 ∷ 0 ∷ eight s (eight a []))) ≡ found_bytes f after
-found-laid f after n at k m s a en et es ea ek em = rw (es, ea, en, et, ek, em) refl
+pub found-laid : (f : Found) (after : ℕ) (r : Record) (k : ℕ) (s a : List ℕ) → r ≡ record_of f → s ≡ low_bytes 8 r.start → a ≡ low_bytes 8 after →
+    k ≡ number_of f → k ∷ r.mark ∷ (low_bytes 2 r.len ++ (0 ∷ 0 ∷ 0 ∷ 0 ∷ eight s (eight a []))) ≡ found_bytes f after
+found-laid f after r k s a er es ea ek = rw (es, ea, er, ek) refl
 
 pub compared-laid : (c : Compared) (at k m : ℕ) (s : List ℕ) → at ≡ compared_place c → s ≡ low_bytes 8 at → k ≡ compared_number c → m ≡ compared_capture c →
     k ∷ m ∷ 0 ∷ 0 ∷ 0 ∷ 0 ∷ 0 ∷ 0 ∷ eight s [] ≡ compared_bytes c

@@ -1,7 +1,7 @@
 -- What the calls leave, case by case, over plain variables.
 use Prim.Native.Nat.{ℕ, ◌^◌, ◌≤◌, ◌<◌}
 use mathlib.Core.Path.{◌≡◌, refl, ap, ◌∙◌}
-use mathlib.Core.List.{List, ◌∷◌, ◌++◌}
+use mathlib.Core.List.{List, [], ◌∷◌, ◌++◌}
 use borrow.Author.Tests.{lt-ltb, le-ltb, eq-eqb, ne_eqb}
 use lib.ListN.{length, get_or}
 use lib.Dec.{eqb}
@@ -16,21 +16,13 @@ use Rattle.desk_replies.specs.declared.Head.{Head}
 use Rattle.desk_replies.specs.declared.Contents.{Contents}
 use Rattle.desk_replies.specs.declared.Heard as code
 use Rattle.desk_replies.specs.Replies.{number_of, told_of, hearing_to, hear_part_of}
+use Rattle.c_desk.proofs.Laid.{eight}
 use Rattle.c_desk.specs.Desk.{asked, c_asked, after_hear, bytes_of, heard_bytes, heard_to, unheard_of, c_heard}
 use Rattle.c_desk.specs.Inner.{heard_number, heard_head, heard_kind, laid_bytes}
 
 -- a request, of its number
 pub asked_of : (a : Result ℕ RequestError) (room : List ℕ) (w : Wrote) (n : ℕ) → n ≡ written_number a → written_to a room ≡ w → asked n room ≡ c_asked w
 asked_of a room w n e k = ap (λ (x : ℕ). asked x room) e ∙ ap c_asked k
-
--- a Write's flags, of a byte
-pub write-plain : (flush addr : ℕ) (d room : List ℕ) → flush ≡ 0 →
-    request_of 52 (asks Cmd.Write 0 addr) d room ≡ request_of 52 (asks Cmd.Write (pick (eqb flush 0) 0 (2 ^ 7)) addr) d room
-write-plain flush addr d room h = simp (eq-eqb flush 0 h)
-
-pub write-flushed : (flush addr : ℕ) (d room : List ℕ) → (flush ≡ 0 → ⊥) →
-    request_of 52 (asks Cmd.Write (2 ^ 7) addr) d room ≡ request_of 52 (asks Cmd.Write (pick (eqb flush 0) 0 (2 ^ 7)) addr) d room
-write-flushed flush addr d room h = simp (ne_eqb flush 0 h)
 
 -- what was heard, as the code lays it and as it is told
 pub laid-told : (h : code.Heard) (f : List ℕ) (g n : ℕ) → laid_bytes h g n ≡ heard_bytes (hearing_to f g n h)
@@ -51,15 +43,11 @@ number_told (code.Heard.Faulty status) f = refl
 number_told code.Heard.Refused f = refl
 
 -- the 24 bytes, of their parts
-pub laid_of : (h : code.Heard) (f : Head) (a l : List ℕ) (n k g t : ℕ) → f ≡ heard_head h → a ≡ low_bytes 4 f.addr → l ≡ low_bytes 2 f.len →
-    n ≡ heard_number h → k ≡ heard_kind h →
+pub laid_of : (h : code.Heard) (f : Head) (a l p : List ℕ) (n k g t : ℕ) → f ≡ heard_head h → a ≡ low_bytes 4 f.addr → l ≡ low_bytes 2 f.len →
+    p ≡ low_bytes 8 t → n ≡ heard_number h → k ≡ heard_kind h →
     n ∷ f.cmd ∷ f.status ∷ f.flags ∷ get_or a 0 0 ∷ get_or a 1 0 ∷ get_or a 2 0 ∷ get_or a 3 0 ∷ get_or l 0 0 ∷ get_or l 1 0 ∷
-    (low_bytes 2 g ++ (k ∷ 0 ∷ 0 ∷ 0 ∷ low_bytes 8 t)) ≡ laid_bytes h g t
-laid_of h f a l n k g t ef ea el en ek =
-    let x : n ∷ f.cmd ∷ f.status ∷ f.flags ∷ get_or a 0 0 ∷ get_or a 1 0 ∷ get_or a 2 0 ∷ get_or a 3 0 ∷ get_or l 0 0 ∷ get_or l 1 0 ∷
-    (low_bytes 2 g ++ (k ∷ 0 ∷ 0 ∷ 0 ∷ low_bytes 8 t)) ≡ bytes_of n f k g t = rw (ea, el) refl in
-    x ∙ ap (λ (y : Head). bytes_of n y k g t) ef ∙ ap (λ (y : ℕ). bytes_of y (heard_head h) k g t) en ∙
-    ap (λ (y : ℕ). bytes_of (heard_number h) (heard_head h) y g t) ek
+    (low_bytes 2 g ++ (k ∷ 0 ∷ 0 ∷ 0 ∷ eight p [])) ≡ laid_bytes h g t
+laid_of h f a l p n k g t ef ea el ep en ek = rw (ea, el, ep, ef, en, ek) refl
 
 module _ (cap : ℕ) (f : List ℕ) (g : ℕ) (l heard : List ℕ) where
   pub not_heard : length heard < 24 → (r : ℕ) → r ≡ unheard_of cap f g → after_hear r f heard ≡ c_heard cap f g l heard

@@ -2,9 +2,10 @@
 use Rattle.std.specs.Prelude.{ℕ, List, ◌∷◌, ◌++◌, length, ltb, if◌then◌else◌}
 use Rattle.laws.specs.Low.{low_bytes}
 use Rattle.laws.specs.Over.{over}
-use Rattle.desk_captures.specs.declared.Found.{Found}
+use Rattle.desk_captures.specs.declared.Record.{Record}
+use Rattle.desk_captures.specs.declared.Which.{Which}
 use Rattle.desk_captures.specs.declared.Compared.{Compared}
-use Rattle.desk_captures.specs.Captures.{next_at, number_of, mark_of, start_of, size_of, after_at, compare_of}
+use Rattle.desk_captures.specs.Captures.{Found, next_at, fault_number, number_of, mark_of, start_of, size_of, after_at, compare_of}
 
 -- a call: its result, and the bytes that tell of it
 pub record Told : Type 0 where
@@ -23,6 +24,9 @@ told_in size room number new = if ltb (length room) size then told 14 room else 
 abbrev pub found_size : ℕ
 found_size = 24
 
+abbrev pub record_of : Found → Record
+record_of f = record { mark = mark_of f; start = start_of f; len = size_of f }
+
 abbrev pub found_bytes : Found → ℕ → List ℕ
 found_bytes f after =
     number_of f ∷ mark_of f ∷ (low_bytes 2 (size_of f) ++ (0 ∷ 0 ∷ 0 ∷ 0 ∷ (low_bytes 8 (start_of f) ++ low_bytes 8 after)))
@@ -34,19 +38,23 @@ c_next s at room = told_in found_size room (number_of (next_at s at)) (found_byt
 abbrev pub compared_number : Compared → ℕ
 compared_number Compared.Alike = 0
 compared_number (Compared.Differs at) = 1
-compared_number (Compared.Fault capture code at) = code
+compared_number (Compared.Fault which fault at) = fault_number fault
 
 -- whose fault: 1 the first's, 2 the second's; 0 where there is none
+abbrev pub which_number : Which → ℕ
+which_number Which.First = 1
+which_number Which.Second = 2
+
 abbrev pub compared_capture : Compared → ℕ
 compared_capture Compared.Alike = 0
 compared_capture (Compared.Differs at) = 0
-compared_capture (Compared.Fault capture code at) = capture
+compared_capture (Compared.Fault which fault at) = which_number which
 
 -- the place of the mark: of the record that differs, in the second; of the fault, in its own; 0 where there is neither
 abbrev pub compared_place : Compared → ℕ
 compared_place Compared.Alike = 0
 compared_place (Compared.Differs at) = at
-compared_place (Compared.Fault capture code at) = at
+compared_place (Compared.Fault which fault at) = at
 
 -- 16 bytes: 0 number, 1 whose fault, 2 to 7 are 0, 8 the place (8)
 abbrev pub compared_size : ℕ

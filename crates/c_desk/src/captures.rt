@@ -1,42 +1,51 @@
 // The calls on captures: each looks at the caller's bytes, copies none of them, and tells what it found in lent bytes.
 ghost use Rattle.std.specs.Prelude.{◌≡◌};
-ghost use Rattle.laws.specs.Low.{low_bytes};
-ghost use Rattle.c_desk.specs.Captures.{told, found_bytes, c_next, compared_number, compared_capture, compared_place, compared_bytes, c_compared};
+ghost use Rattle.c_desk.specs.Captures.{
+  told,
+  record_of,
+  found_bytes,
+  c_next,
+  compared_number,
+  which_number,
+  compared_capture,
+  compared_place,
+  compared_bytes,
+  c_compared,
+};
 
-use crate::lay_over;
-use desk_captures::{Compared, Found};
+use crate::{lay_over, place_bytes};
+use desk_captures::{Compared, Fault, Record, Which, fault_number, number_of};
 
 // How many bytes tell what stands at a place, and how two captures compare.
 pub const FOUND_SIZE: usize = 24;
 
 pub const COMPARED_SIZE: usize = 16;
 
-// A place, low byte first.
-fn place_bytes(at: usize) -> [u8; 8]
-    ensures { result ≡ low_bytes 8 at }
+// A record's numbers; 0 where none was found.
+fn record_of(found: Result<Option<Record>, Fault>) -> Record
+    ensures { result ≡ record_of found }
 {
-    [
-        (at % 256) as u8,
-        (at / 256 % 256) as u8,
-        (at / 256 / 256 % 256) as u8,
-        (at / 256 / 256 / 256 % 256) as u8,
-        (at / 256 / 256 / 256 / 256 % 256) as u8,
-        (at / 256 / 256 / 256 / 256 / 256 % 256) as u8,
-        (at / 256 / 256 / 256 / 256 / 256 / 256 % 256) as u8,
-        (at / 256 / 256 / 256 / 256 / 256 / 256 / 256 % 256) as u8,
-    ]
+    match found {
+        Ok(Some(record)) => record,
+        Ok(None) | Err(_) => Record {
+            mark: 0,
+            start: 0,
+            len: 0,
+        },
+    }
 }
 
 // What stands at a place, in 24 bytes.
-fn found_bytes(f: Found, after: usize) -> [u8; FOUND_SIZE]
-    ensures { result ≡ found_bytes f after }
+fn found_bytes(found: Result<Option<Record>, Fault>, after: usize) -> [u8; FOUND_SIZE]
+    ensures { result ≡ found_bytes found after }
 {
-    let n = desk_captures::size_of(f);
-    let s = place_bytes(desk_captures::start_of(f));
+    let record = record_of(found);
+    let n = record.len;
+    let s = place_bytes(record.start);
     let a = place_bytes(after);
     [
-        desk_captures::number_of(f),
-        desk_captures::mark_of(f),
+        number_of(found),
+        record.mark,
         (n % 256) as u8,
         (n / 256 % 256) as u8,
         0,
@@ -72,7 +81,7 @@ pub fn tinyboot_capture_next(capture: &[u8], at: usize, found: &mut [u8]) -> u8
     let f = desk_captures::next_at(capture, at);
     let new = found_bytes(f, desk_captures::after(capture, at));
     lay_over(&new, found);
-    desk_captures::number_of(f)
+    number_of(f)
 }
 
 fn compared_number(c: Compared) -> u8
@@ -80,12 +89,17 @@ fn compared_number(c: Compared) -> u8
 {
     match c {
         Compared::Alike => 0,
-        Compared::Differs { at: _ } => 1,
-        Compared::Fault {
-            capture: _,
-            code,
-            at: _,
-        } => code,
+        Compared::Differs { .. } => 1,
+        Compared::Fault { fault, .. } => fault_number(fault),
+    }
+}
+
+fn which_number(which: Which) -> u8
+    ensures { result ≡ which_number which }
+{
+    match which {
+        Which::First => 1,
+        Which::Second => 2,
     }
 }
 
@@ -93,13 +107,8 @@ fn compared_capture(c: Compared) -> u8
     ensures { result ≡ compared_capture c }
 {
     match c {
-        Compared::Alike => 0,
-        Compared::Differs { at: _ } => 0,
-        Compared::Fault {
-            capture,
-            code: _,
-            at: _,
-        } => capture,
+        Compared::Alike | Compared::Differs { .. } => 0,
+        Compared::Fault { which, .. } => which_number(which),
     }
 }
 
@@ -108,12 +117,7 @@ fn compared_place(c: Compared) -> usize
 {
     match c {
         Compared::Alike => 0,
-        Compared::Differs { at } => at,
-        Compared::Fault {
-            capture: _,
-            code: _,
-            at,
-        } => at,
+        Compared::Differs { at } | Compared::Fault { at, .. } => at,
     }
 }
 

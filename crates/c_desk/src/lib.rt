@@ -56,10 +56,7 @@ pub fn tinyboot_request_write(addr: u32, flush: u8, bytes: &[u8], room: &mut [u8
     ensures { asked result room.new ≡
         c_asked (request_of 52 (asks Cmd.Write (pick (eqb flush 0) 0 (2 ^ 7)) addr) bytes.now room.old) }
 {
-    if flush == 0 {
-        return number(desk_requests::write(addr, false, bytes, room));
-    }
-    number(desk_requests::write(addr, true, bytes, room))
+    number(desk_requests::write(addr, flush != 0, bytes, room))
 }
 
 pub fn tinyboot_request_verify(size: u32, room: &mut [u8]) -> u8
@@ -86,9 +83,9 @@ fn heard_number(h: Heard) -> u8
 {
     match h {
         Heard::Nothing => 0,
-        Heard::Request { head } => 1,
-        Heard::Reply { head, contents } => 2,
-        Heard::Faulty { status } => 3,
+        Heard::Request { .. } => 1,
+        Heard::Reply { .. } => 2,
+        Heard::Faulty { .. } => 3,
         Heard::Refused => 11,
     }
 }
@@ -99,7 +96,7 @@ fn blank(status: u8) -> Head
 {
     Head {
         cmd: 0,
-        status: status,
+        status,
         addr: 0,
         flags: 0,
         len: 0,
@@ -110,11 +107,9 @@ fn head_of(h: Heard) -> Head
     ensures { result ≡ heard_head h }
 {
     match h {
-        Heard::Nothing => blank(0),
-        Heard::Request { head } => head,
-        Heard::Reply { head, contents } => head,
+        Heard::Nothing | Heard::Refused => blank(0),
+        Heard::Request { head } | Heard::Reply { head, .. } => head,
         Heard::Faulty { status } => blank(status),
-        Heard::Refused => blank(0),
     }
 }
 
@@ -122,8 +117,8 @@ fn contents_kind(c: Contents) -> u8
     ensures { result ≡ contents_kind c }
 {
     match c {
-        Contents::Info { info } => 1,
-        Contents::Verify { crc } => 2,
+        Contents::Info { .. } => 1,
+        Contents::Verify { .. } => 2,
         Contents::Select => 3,
         Contents::Plain => 0,
     }
@@ -133,12 +128,25 @@ fn kind_of(h: Heard) -> u8
     ensures { result ≡ heard_kind h }
 {
     match h {
-        Heard::Nothing => 0,
-        Heard::Request { head } => 0,
-        Heard::Reply { head, contents } => contents_kind(contents),
-        Heard::Faulty { status } => 0,
-        Heard::Refused => 0,
+        Heard::Reply { contents, .. } => contents_kind(contents),
+        Heard::Nothing | Heard::Request { .. } | Heard::Faulty { .. } | Heard::Refused => 0,
     }
+}
+
+// A place or a number of bytes, low byte first.
+fn place_bytes(at: usize) -> [u8; 8]
+    ensures { result ≡ low_bytes 8 at }
+{
+    [
+        (at % 256) as u8,
+        (at / 256 % 256) as u8,
+        (at / 256 / 256 % 256) as u8,
+        (at / 256 / 256 / 256 % 256) as u8,
+        (at / 256 / 256 / 256 / 256 % 256) as u8,
+        (at / 256 / 256 / 256 / 256 / 256 % 256) as u8,
+        (at / 256 / 256 / 256 / 256 / 256 / 256 % 256) as u8,
+        (at / 256 / 256 / 256 / 256 / 256 / 256 / 256 % 256) as u8,
+    ]
 }
 
 // What was heard, in 24 bytes.
@@ -148,6 +156,7 @@ fn heard_bytes(h: Heard, got: usize, taken: usize) -> [u8; HEARD_SIZE]
     let f = head_of(h);
     let a = le::bytes32(f.addr);
     let l = le::bytes16(f.len);
+    let t = place_bytes(taken);
     [
         heard_number(h),
         f.cmd,
@@ -165,14 +174,14 @@ fn heard_bytes(h: Heard, got: usize, taken: usize) -> [u8; HEARD_SIZE]
         0,
         0,
         0,
-        (taken % 256) as u8,
-        (taken / 256 % 256) as u8,
-        (taken / 256 / 256 % 256) as u8,
-        (taken / 256 / 256 / 256 % 256) as u8,
-        (taken / 256 / 256 / 256 / 256 % 256) as u8,
-        (taken / 256 / 256 / 256 / 256 / 256 % 256) as u8,
-        (taken / 256 / 256 / 256 / 256 / 256 / 256 % 256) as u8,
-        (taken / 256 / 256 / 256 / 256 / 256 / 256 / 256 % 256) as u8,
+        t[0],
+        t[1],
+        t[2],
+        t[3],
+        t[4],
+        t[5],
+        t[6],
+        t[7],
     ]
 }
 
@@ -180,10 +189,7 @@ fn heard_bytes(h: Heard, got: usize, taken: usize) -> [u8; HEARD_SIZE]
 fn unheard(f: &[u8], got: usize) -> u8
     ensures { result ≡ unheard_of 52 f.now got }
 {
-    if frame::begins(f, got, false) {
-        return 14;
-    }
-    11
+    if frame::begins(f, got, false) { 14 } else { 11 }
 }
 
 // Takes bytes until the first frame has ended, into a frame of which `got` bytes have begun, and lays what was heard.

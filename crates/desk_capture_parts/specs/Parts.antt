@@ -1,7 +1,6 @@
 -- One step of the reader over a lent capture (02, E12: each record is handed back as that very part).
 use Rattle.std.specs.Prelude.{ℕ, List}
-use Rattle.desk_captures.specs.declared.Found.{Found}
-use Rattle.desk_captures.specs.Captures.{next_at, after_at, part_at, part_place}
+use Rattle.desk_captures.specs.Captures.{Found, next_at, after_at, part_at, part_place}
 use Rattle.desk_capture_parts.specs.declared.Taken.{Taken}
 
 -- what stands at the place, the record's bytes and where they lie, and the place of what follows

@@ -5,7 +5,7 @@
 ghost use Rattle.std.specs.Prelude.{◌≡◌};
 ghost use Rattle.desk_capture_parts.specs.Parts.{taken_of, taken_to};
 
-use desk_captures::Found;
+use desk_captures::{Fault, Record};
 
 // A capture and the place up to which it has been read.
 #[derive(Clone, Copy)]
@@ -19,7 +19,7 @@ pub struct Capture<'a> {
 #[derive(Clone, Copy)]
 pub struct Taken<'a> {
     pub part: &'a [u8],
-    pub found: Found,
+    pub found: Result<Option<Record>, Fault>,
     pub next: usize,
 }
 

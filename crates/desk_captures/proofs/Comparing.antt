@@ -10,12 +10,12 @@ use lib.ListN.{length, get_or, take, drop, length-drop, drop_of_length-le}
 use lib.Seq.{drop-cons}
 use lib.Dec.{eqb}
 use Rattle.laws.proofs.Bools.{and_both}
-use Rattle.desk_captures.specs.declared.Found.{Found}
+use Rattle.std.specs.Prelude.{Some, None, Ok, Err}
 use Rattle.desk_captures.specs.declared.Compared.{Compared}
-use Rattle.desk_captures.specs.Captures.{Front, nothing, stands, fault, front_of, found_by, next_at, number_of, mark_of, after_by, after_at, part_at}
+use Rattle.desk_captures.specs.Captures.{Front, nothing, stands, fault, front_of, found_by, next_at, record_by, after_by, after_at, part_at}
 use Rattle.std.specs.Cmp.Lexicographic.{pointwise}
 use Rattle.desk_captures.specs.Captures.{Reading, count_of, joined, alike, compared, compare_of, part_place, place_by, difference_place, difference_of}
-use Rattle.desk_captures.specs.Inner.{same_at, told_by}
+use Rattle.desk_captures.specs.Inner.{same_by, same_at, told_by}
 use Rattle.desk_captures.proofs.Readings.{reading_at, past, reading_is, part_front, Known, known, untrue, counted}
 
 pub alike_same : (p q : List ℕ) → alike p q ≡ true → p ≡ q
@@ -27,80 +27,45 @@ alike_same (a ∷ p) (b ∷ q) e =
     let w = and_both (eqb a b) (alike p q) e in
     ap₂ ◌∷◌ (eqb-true a b w.0) (alike_same p q w.1)
 
--- no record has mark 0
-unmarked : (m : ℕ) → (m ≡ 0 → ⊥) → (t : Bool) → not (eqb m 0) && (eqb m 0 && t) ≡ true → ⊥
-unmarked m h t e =
-    let w = and_both (not (eqb m 0)) (eqb m 0 && t) e in
-    h (eqb-true m 0 (and_both (eqb m 0) t w.1).0)
-
 -- at one place of two captures, of which l and k are left, with f and g at their fronts, and what follows these
 module _ (at : ℕ) (l k : List ℕ) where
-  abbrev same_by : Front → Front → Bool
-  same_by f g =
-      not (eqb (mark_of (found_by at f)) 0) &&
-      (eqb (mark_of (found_by at f)) (mark_of (found_by at g)) && alike (take (count_of f) (drop 2 l)) (take (count_of g) (drop 2 k)))
+  abbrev same_front : Front → Front → Bool
+  same_front f g = same_by (record_by (found_by at f)) (record_by (found_by at g)) (take (count_of f) (drop 2 l)) (take (count_of g) (drop 2 k))
 
   module _ (r s : Reading) where
-    told_by_lem : (f g : Front) → Known l f → Known k g → same_by f g ≡ false →
-        told_by at (number_of (found_by at f)) (number_of (found_by at g)) ≡ compared (joined at l f r) (joined at k g s)
+    told_front : (f g : Front) → same_front f g ≡ false → told_by at (found_by at f) (found_by at g) ≡ compared (joined at l f r) (joined at k g s)
     unfolding compared
-    told_by_lem (fault code) g x y e = simp (lt-ltb 1 code x)
-    told_by_lem nothing nothing x y e = refl
-    told_by_lem nothing (stands m n) x y e = refl
-    told_by_lem nothing (fault code) x y e = simp (lt-ltb 1 code y)
-    told_by_lem (stands m n) nothing x y e = refl
-    told_by_lem (stands m n) (fault code) x y e = simp (lt-ltb 1 code y)
-    told_by_lem (stands m n) (stands o i) x y e = let w = simp (ne_eqb m 0 x.0) at e in rw w refl
+    told_front (fault w) g e = refl
+    told_front nothing nothing e = refl
+    told_front nothing (stands m n) e = refl
+    told_front nothing (fault w) e = refl
+    told_front (stands m n) nothing e = refl
+    told_front (stands m n) (fault w) e = refl
+    told_front (stands m n) (stands o i) e = rw e refl
 
-    turn_by : (f g : Front) → Known l f → Known k g → same_by f g ≡ true →
+    turn_by : (f g : Front) → Known l f → Known k g → same_front f g ≡ true →
         (compared (joined at l f r) (joined at k g s) ≡ compared r s) ×
         ((count_of f ≡ count_of g) × ((after_by at (found_by at f) ≡ past at f) × (2 ≤ length l)))
     unfolding compared
     turn_by nothing g x y e = absurd (untrue e)
-    turn_by (fault code) g x y e = absurd (untrue e)
-    turn_by (stands m n) nothing x y e = absurd (unmarked m x.0 (alike (take n (drop 2 l)) []) e)
-    turn_by (stands m n) (fault code) x y e = absurd (unmarked m x.0 (alike (take n (drop 2 l)) []) e)
+    turn_by (fault w) g x y e = absurd (untrue e)
+    turn_by (stands m n) nothing x y e = absurd (untrue e)
+    turn_by (stands m n) (fault w) x y e = absurd (untrue e)
     turn_by (stands m n) (stands o i) x y e =
-        let w = and_both (not (eqb m 0)) (eqb m o && alike (take n (drop 2 l)) (take i (drop 2 k))) e in
-        let v = and_both (eqb m o) (alike (take n (drop 2 l)) (take i (drop 2 k))) w.1 in
+        let v = and_both (eqb m o) (alike (take n (drop 2 l)) (take i (drop 2 k))) e in
         let c = ap length (alike_same (take n (drop 2 l)) (take i (drop 2 k)) v.1) in
-        (rw w.1 refl, (counted l n x.1 ∙ c ∙ sym (counted k i y.1), (omega arith, omega (arith, x.1))))
-
--- whether the same record stands in both, by the marks m and n that were read and by the parts p and q
-unfoldable pub same_of : ℕ → ℕ → List ℕ → List ℕ → Bool
-same_of m n p q = not (eqb m 0) && (eqb m n && alike p q)
-
-module _ (t : Bool) (m n : ℕ) (p q : List ℕ) (e : t ≡ same_of m n p q) where
-  pub same_none : m ≡ 0 → false ≡ t
-  unfolding same_of
-  same_none z = rw e (simp (eq-eqb m 0 z))
-
-  module _ (z : m ≡ 0 → ⊥) where
-    pub same_marks : (m ≡ n → ⊥) → false ≡ t
-    unfolding same_of
-    same_marks h = rw e (simp (ne_eqb m 0 z, ne_eqb m n h))
-
-    pub same_parts : m ≡ n → alike p q ≡ t
-    unfolding same_of
-    same_parts h = rw e (simp (ne_eqb m 0 z, eq-eqb m n h))
+        (rw e refl, (counted l n x.1 ∙ c ∙ sym (counted k i y.1), (omega arith, omega (arith, x.1))))
 
 module _ (x y : List ℕ) (at : ℕ) where
-  pub by_marks : (f g : Found) → f ≡ next_at x at → g ≡ next_at y at → (m n : ℕ) → m ≡ mark_of f → n ≡ mark_of g →
-      same_at x y at ≡ same_of m n (part_at x at) (part_at y at)
-  unfolding same_at same_of
-  by_marks f g ef eg m n em en = rw (← ef, ← eg, ← em, ← en) refl
-
-  same_is : same_at x y at ≡ same_by at (drop at x) (drop at y) (front_of (drop at x)) (front_of (drop at y))
+  same_is : same_at x y at ≡ same_front at (drop at x) (drop at y) (front_of (drop at x)) (front_of (drop at y))
   unfolding same_at next_at
   same_is = rw (part_front x at, part_front y at) refl
 
   -- where the same record does not stand in both, the comparison is told
-  pub is_told : same_at x y at ≡ false → (a b : ℕ) → a ≡ number_of (next_at x at) → b ≡ number_of (next_at y at) →
-      told_by at a b ≡ compared (reading_at x at) (reading_at y at)
+  pub is_told : same_at x y at ≡ false → told_by at (next_at x at) (next_at y at) ≡ compared (reading_at x at) (reading_at y at)
   unfolding next_at
-  is_told e a b ea eb =
-      rw (ea, eb, reading_is x at, reading_is y at)
-      (told_by_lem at (drop at x) (drop at y) _ _ (front_of (drop at x)) (front_of (drop at y)) (known (drop at x)) (known (drop at y)) (sym same_is ∙ e))
+  is_told e =
+      rw (reading_is x at, reading_is y at) (told_front at (drop at x) (drop at y) _ _ (front_of (drop at x)) (front_of (drop at y)) (sym same_is ∙ e))
 
   module _ (e : same_at x y at ≡ true) (a : ℕ) (ea : a ≡ after_at x at) where
     turn : (compared (reading_at x at) (reading_at y at) ≡ compared (reading_at x a) (reading_at y a)) × (length x - a < length x - at)

@@ -48,13 +48,13 @@ part_front s at = go (front_of (drop at s))
     go : (f : Front) → take (size_of (found_by at f)) (drop (start_of (found_by at f)) s) ≡ take (count_of f) (drop 2 (drop at s))
     go nothing = refl
     go (stands m n) = ap (take n) (sym (drop-drop 2 at s))
-    go (fault code) = refl
+    go (fault f) = refl
 
 -- what is known of what stands at the front of l
 abbrev pub Known : List ℕ → Front → Type 0
 Known l nothing = Unit {0}
 Known l (stands m n) = (m ≡ 0 → ⊥) × (2 + n ≤ length l)
-Known l (fault code) = 1 < code
+Known l (fault f) = Unit {0}
 
 pub untrue : false ≡ true → ⊥
 untrue e = subst T (sym e) tt
@@ -63,7 +63,7 @@ no_mark : (m : ℕ) → is_mark m ≡ true → m ≡ 0 → ⊥
 no_mark m e z = untrue (ap is_mark (sym z) ∙ e)
 
 pub known : (l : List ℕ) → Known l (front_of l)
-known l = front_is (Known l) l (λ e. tt) (omega arith) (omega arith) (omega arith) (λ m n e p q. (no_mark m e, q))
+known l = front_is (Known l) l (λ e. tt) tt tt tt (λ m n e p q. (no_mark m e, q))
 
 -- a record has as many bytes as its count says
 pub counted : (l : List ℕ) (n : ℕ) → 2 + n ≤ length l → n ≡ length (take n (drop 2 l))

@@ -1,6 +1,8 @@
 -- The bench's captures (02, E12): records, each after a mark of two bytes, which say which way it went and how many bytes it has.
-use Rattle.std.specs.Prelude.{ℕ, zero, suc, ◌+◌, Bool, true, false, ◌&&◌, ◌||◌, List, [], ◌∷◌, length, take, drop, eqb, ltb, if◌then◌else◌}
-use Rattle.desk_captures.specs.declared.Found.{Found}
+use Rattle.std.specs.Prelude.{ℕ, zero, suc, ◌+◌, Bool, true, false, ◌&&◌, ◌||◌, List, [], ◌∷◌, length, take, drop, eqb, ltb, if◌then◌else◌, Option, Some, None, Result, Ok, Err}
+use Rattle.desk_captures.specs.declared.Record.{Record}
+use Rattle.desk_captures.specs.declared.Fault.{Fault}
+use Rattle.desk_captures.specs.declared.Which.{Which}
 use Rattle.desk_captures.specs.declared.Compared.{Compared}
 
 -- the first mark byte: to the module, from it
@@ -13,62 +15,79 @@ from_module = 0x3C
 abbrev pub is_mark : ℕ → Bool
 is_mark b = eqb b to_module || eqb b from_module
 
--- what stands at the front of what is left of a capture: nothing, a record with this mark and so many bytes, or a fault, by its number
+-- what stands at the front of what is left of a capture: nothing, a record with this mark and so many bytes, or a fault
 pub data Front : Type 0 where
   nothing : Front
   stands : ℕ → ℕ → Front
-  fault : ℕ → Front
+  fault : Fault → Front
 
--- a mark and a count, of the bytes after them: a count of 0 is 25, a record cut short 26
+-- a mark and a count, of the bytes after them
 abbrev pub counted_of : ℕ → ℕ → List ℕ → Front
-counted_of m n r = if eqb n 0 then fault 25 else if ltb (length r) n then fault 26 else stands m n
+counted_of m n r = if eqb n 0 then fault Fault.CountZero else if ltb (length r) n then fault Fault.CutShort else stands m n
 
 -- a mark, of the bytes after it: a record that has no count is cut short
 abbrev pub marked_of : ℕ → List ℕ → Front
-marked_of m [] = fault 26
+marked_of m [] = fault Fault.CutShort
 marked_of m (n ∷ r) = counted_of m n r
 
--- an unknown mark is 24, before all else
+-- an unknown mark comes before all else
 unfoldable pub front_of : List ℕ → Front
 front_of [] = nothing
-front_of (m ∷ r) = if is_mark m then marked_of m r else fault 24
+front_of (m ∷ r) = if is_mark m then marked_of m r else fault Fault.UnknownMark
 
--- the same of a place of a capture: a record's bytes begin after its two mark bytes
+-- the same of a place of a capture: a record, whose bytes begin after its two mark bytes, nothing or a fault
+abbrev pub Found : Type 0
+Found = Result (Option Record) Fault
+
+abbrev pub recorded : ℕ → ℕ → ℕ → Found
+recorded mark start len = Ok (Some (record { mark = mark; start = start; len = len }))
+
 abbrev pub found_by : ℕ → Front → Found
-found_by at nothing = Found.End
-found_by at (stands m n) = Found.Record m (at + 2) n
-found_by at (fault code) = Found.Fault code
+found_by at nothing = Ok None
+found_by at (stands m n) = recorded m (at + 2) n
+found_by at (fault f) = Err f
 
 unfoldable pub next_at : List ℕ → ℕ → Found
 next_at s at = found_by at (front_of (drop at s))
 
+-- a fault's number: 24 an unknown mark, 25 a count of 0, 26 a record cut short
+abbrev pub fault_number : Fault → ℕ
+fault_number Fault.UnknownMark = 24
+fault_number Fault.CountZero = 25
+fault_number Fault.CutShort = 26
+
 -- what was found, by its number: 0 the end, 1 a record, 24 to 26 a fault
 abbrev pub number_of : Found → ℕ
-number_of Found.End = 0
-number_of (Found.Record m i n) = 1
-number_of (Found.Fault code) = code
+number_of (Ok None) = 0
+number_of (Ok (Some r)) = 1
+number_of (Err f) = fault_number f
+
+-- the record, where one was found
+abbrev pub record_by : Found → Option Record
+record_by (Ok r) = r
+record_by (Err f) = None
 
 -- a record's mark, where its bytes begin and how many there are; 0 where there is none
 abbrev pub mark_of : Found → ℕ
-mark_of (Found.Record m i n) = m
-mark_of (Found.Fault code) = 0
-mark_of Found.End = 0
+mark_of (Ok (Some r)) = r.mark
+mark_of (Ok None) = 0
+mark_of (Err f) = 0
 
 abbrev pub start_of : Found → ℕ
-start_of (Found.Record m i n) = i
-start_of (Found.Fault code) = 0
-start_of Found.End = 0
+start_of (Ok (Some r)) = r.start
+start_of (Ok None) = 0
+start_of (Err f) = 0
 
 abbrev pub size_of : Found → ℕ
-size_of (Found.Record m i n) = n
-size_of (Found.Fault code) = 0
-size_of Found.End = 0
+size_of (Ok (Some r)) = r.len
+size_of (Ok None) = 0
+size_of (Err f) = 0
 
 -- the place of what follows; where no record stands, the same place: after a fault the same fault is met again
 abbrev pub after_by : ℕ → Found → ℕ
-after_by at (Found.Record m i n) = i + n
-after_by at (Found.Fault code) = at
-after_by at Found.End = at
+after_by at (Ok (Some r)) = r.start + r.len
+after_by at (Ok None) = at
+after_by at (Err f) = at
 
 unfoldable pub after_at : List ℕ → ℕ → ℕ
 after_at s at = after_by at (next_at s at)
@@ -91,22 +110,22 @@ pub record Noted : Type 0 where
   pub mark : ℕ
   pub bytes : List ℕ
 
--- what a capture comes to: its records in order, then its end, or the first fault, by number and place
+-- what a capture comes to: its records in order, then its end, or the first fault and its place
 pub data Reading : Type 0 where
   ended : Reading
-  faulty : ℕ → ℕ → Reading
+  faulty : Fault → ℕ → Reading
   next : Noted → Reading → Reading
 
 abbrev pub count_of : Front → ℕ
 count_of nothing = 0
 count_of (stands m n) = n
-count_of (fault code) = 0
+count_of (fault f) = 0
 
 -- what stands at the front of l, and what follows it
 abbrev pub joined : ℕ → List ℕ → Front → Reading → Reading
 joined at l nothing rest = ended
 joined at l (stands m n) rest = next (record { at = at; mark = m; bytes = take n (drop 2 l) }) rest
-joined at l (fault code) rest = faulty code at
+joined at l (fault f) rest = faulty f at
 
 -- of what is left of a capture from a place on, after k bytes that belong to the record before
 unfoldable pub read_from : ℕ → ℕ → List ℕ → Reading
@@ -127,11 +146,11 @@ alike (a ∷ p) (b ∷ q) = eqb a b && alike p q
 -- two captures compared: the first's fault; then the second's; none, where the second has ended; the second's record, where the first has ended or has
 -- another mark or other bytes; and so on
 unfoldable pub compared : Reading → Reading → Compared
-compared (faulty code at) s = Compared.Fault 1 code at
-compared ended (faulty code at) = Compared.Fault 2 code at
+compared (faulty why at) s = Compared.Fault Which.First why at
+compared ended (faulty why at) = Compared.Fault Which.Second why at
 compared ended ended = Compared.Alike
 compared ended (next r s) = Compared.Differs r.at
-compared (next q f) (faulty code at) = Compared.Fault 2 code at
+compared (next q f) (faulty why at) = Compared.Fault Which.Second why at
 compared (next q f) ended = Compared.Alike
 compared (next q f) (next r s) = if eqb q.mark r.mark && alike q.bytes r.bytes then compared f s else Compared.Differs r.at
 
@@ -142,7 +161,7 @@ compare_of x y = compared (reading_of x) (reading_of y)
 abbrev pub place_by : ℕ → Compared → ℕ
 place_by end Compared.Alike = end
 place_by end (Compared.Differs at) = at
-place_by end (Compared.Fault capture code at) = end
+place_by end (Compared.Fault which why at) = end
 
 unfoldable pub difference_place : List ℕ → List ℕ → ℕ
 difference_place x y = place_by (length y) (compare_of x y)

@@ -7,10 +7,9 @@ ghost use Rattle.std.specs.Prelude.{◌≡◌};
 ghost use Rattle.desk_captures.specs.Captures.{
   is_mark,
   next_at,
+  fault_number,
   number_of,
-  mark_of,
-  start_of,
-  size_of,
+  record_by,
   after_at,
   part_at,
   part_place,
@@ -27,28 +26,42 @@ pub const TO_MODULE: u8 = 0x3E;
 
 pub const FROM_MODULE: u8 = 0x3C;
 
-// A fault: an unknown mark byte, a count of 0, a record cut short.
-const UNKNOWN_MARK: u8 = 24;
-
-const COUNT_ZERO: u8 = 25;
-
-const CUT_SHORT: u8 = 26;
-
-// What stands at a place of a capture. A record's bytes begin at `start`, after its two mark bytes. A fault is that of the record whose mark stands there.
-#[derive(Clone, Copy)]
-pub enum Found {
-    End,
-    Record { mark: u8, start: usize, len: usize },
-    Fault { code: u8 },
+// A record: its first mark byte, where its own bytes begin, after the two mark bytes, and how many there are.
+#[derive(Clone, Copy, Debug, PartialEq, Eq)]
+pub struct Record {
+    pub mark: u8,
+    pub start: usize,
+    pub len: usize,
 }
 
-// Two captures compared: the second has no record that differs; its first that does, by the place of its mark; or a fault that was met by then, of the first
-// capture (1) or the second (2), by its number and the place of its mark.
-#[derive(Clone, Copy)]
+// Why no record stands at a place that is not the end: an unknown mark byte, a count of 0, a record cut short.
+#[derive(Clone, Copy, Debug, PartialEq, Eq)]
+pub enum Fault {
+    UnknownMark,
+    CountZero,
+    CutShort,
+}
+
+// One of two captures that are compared.
+#[derive(Clone, Copy, Debug, PartialEq, Eq)]
+pub enum Which {
+    First,
+    Second,
+}
+
+// Two captures compared: the second has no record that differs; its first that does, by the place of its mark; or a fault that was met by then, of which
+// capture, and the place of its mark. Three answers, and none is the failure of another: a Result would have to name one so.
+#[derive(Clone, Copy, Debug, PartialEq, Eq)]
 pub enum Compared {
     Alike,
-    Differs { at: usize },
-    Fault { capture: u8, code: u8, at: usize },
+    Differs {
+        at: usize,
+    },
+    Fault {
+        which: Which,
+        fault: Fault,
+        at: usize,
+    },
 }
 
 fn is_mark(b: u8) -> bool
@@ -57,90 +70,64 @@ fn is_mark(b: u8) -> bool
     b == TO_MODULE || b == FROM_MODULE
 }
 
-// What stands at a place; past the end the end does.
-pub fn next_at(capture: &[u8], at: usize) -> Found
+// What stands at a place: a record; nothing, at the end and past it; or the fault of the record whose mark stands there.
+pub fn next_at(capture: &[u8], at: usize) -> Result<Option<Record>, Fault>
     ensures { result ≡ next_at capture.now at }
 {
     if capture.len() <= at {
-        return Found::End;
+        return Ok(None);
     }
     let mark = capture[at];
     if !is_mark(mark) {
-        return Found::Fault { code: UNKNOWN_MARK };
+        return Err(Fault::UnknownMark);
     }
     let left = capture.len() - at;
     if left < 2 {
-        return Found::Fault { code: CUT_SHORT };
+        return Err(Fault::CutShort);
     }
     let len = capture[at + 1] as usize;
     if len < 1 {
-        return Found::Fault { code: COUNT_ZERO };
+        return Err(Fault::CountZero);
     }
     if left - 2 < len {
-        return Found::Fault { code: CUT_SHORT };
+        return Err(Fault::CutShort);
     }
-    Found::Record {
+    Ok(Some(Record {
         mark,
         start: at + 2,
         len,
+    }))
+}
+
+// A fault's number, for C and for what is printed.
+pub fn fault_number(fault: Fault) -> u8
+    ensures { result ≡ fault_number fault }
+{
+    match fault {
+        Fault::UnknownMark => 24,
+        Fault::CountZero => 25,
+        Fault::CutShort => 26,
     }
 }
 
 // What was found, by its number: 0 the end, 1 a record, 24 to 26 a fault.
-pub fn number_of(f: Found) -> u8
-    ensures { result ≡ number_of f }
+pub fn number_of(found: Result<Option<Record>, Fault>) -> u8
+    ensures { result ≡ number_of found }
 {
-    match f {
-        Found::End => 0,
-        Found::Record {
-            mark: _,
-            start: _,
-            len: _,
-        } => 1,
-        Found::Fault { code } => code,
+    match found {
+        Ok(None) => 0,
+        Ok(Some(_)) => 1,
+        Err(fault) => fault_number(fault),
     }
 }
 
-// A record's mark, where its bytes begin and how many there are; 0 where none stands.
-pub fn mark_of(f: Found) -> u8
-    ensures { result ≡ mark_of f }
+// The record at a place, where one stands.
+pub fn record_at(capture: &[u8], at: usize) -> Option<Record>
+    ensures { result ≡ record_by (next_at capture.now at) }
 {
-    match f {
-        Found::End => 0,
-        Found::Record {
-            mark,
-            start: _,
-            len: _,
-        } => mark,
-        Found::Fault { code: _ } => 0,
-    }
-}
-
-pub fn start_of(f: Found) -> usize
-    ensures { result ≡ start_of f }
-{
-    match f {
-        Found::End => 0,
-        Found::Record {
-            mark: _,
-            start,
-            len: _,
-        } => start,
-        Found::Fault { code: _ } => 0,
-    }
-}
-
-pub fn size_of(f: Found) -> usize
-    ensures { result ≡ size_of f }
-{
-    match f {
-        Found::End => 0,
-        Found::Record {
-            mark: _,
-            start: _,
-            len,
-        } => len,
-        Found::Fault { code: _ } => 0,
+    match next_at(capture, at) {
+        Ok(record) => record,
+        Err(_) => None,
     }
 }
 
@@ -148,15 +135,9 @@ pub fn size_of(f: Found) -> usize
 pub fn after(capture: &[u8], at: usize) -> usize
     ensures { result ≡ after_at capture.now at }
 {
-    let f = next_at(capture, at);
-    match f {
-        Found::End => at,
-        Found::Record {
-            mark: _,
-            start,
-            len,
-        } => start + len,
-        Found::Fault { code: _ } => at,
+    match record_at(capture, at) {
+        Some(record) => record.start + record.len,
+        None => at,
     }
 }
 
@@ -164,10 +145,10 @@ pub fn after(capture: &[u8], at: usize) -> usize
 pub fn part_at<'a>(capture: &'a [u8], at: usize) -> &'a [u8]
     ensures { (result.now ≡ part_at capture.now at) × (result.ref_ptr ≡ part_place capture.entry.ref_ptr capture.now at) }
 {
-    let f = next_at(capture, at);
-    let start = start_of(f);
-    let len = size_of(f);
-    &capture[start..start + len]
+    match record_at(capture, at) {
+        Some(record) => &capture[record.start..record.start + record.len],
+        None => &capture[..0],
+    }
 }
 
 pub fn same_bytes(p: &[u8], q: &[u8]) -> bool
@@ -177,46 +158,41 @@ pub fn same_bytes(p: &[u8], q: &[u8]) -> bool
 }
 
 // Whether the same record stands at this place of both.
+#[tactic(auto, unfolding(crate::specs::Inner::same_at))]
 fn same_at(first: &[u8], second: &[u8], at: usize) -> bool
     ensures { result ≡ same_at first.now second.now at }
 {
-    let f = next_at(first, at);
-    let s = next_at(second, at);
-    let m = mark_of(f);
-    let n = mark_of(s);
-    if m == 0 {
+    let Some(f) = record_at(first, at) else {
         return false;
-    }
-    if m != n {
+    };
+    let Some(s) = record_at(second, at) else {
         return false;
-    }
-    let p = part_at(first, at);
-    let q = part_at(second, at);
-    same_bytes(p, q)
+    };
+    f.mark == s.mark && same_bytes(part_at(first, at), part_at(second, at))
 }
 
-// What is told where the same record does not stand in both, by the numbers of what does.
-fn told(a: u8, b: u8, at: usize) -> Compared
-    ensures { result ≡ told_by at a b }
+// What is told where the same record does not stand in both, of what does.
+fn told(
+    first: Result<Option<Record>, Fault>,
+    second: Result<Option<Record>, Fault>,
+    at: usize,
+) -> Compared
+    ensures { result ≡ told_by at first second }
 {
-    if 1 < a {
-        return Compared::Fault {
-            capture: 1,
-            code: a,
+    match (first, second) {
+        (Err(fault), _) => Compared::Fault {
+            which: Which::First,
+            fault,
             at,
-        };
-    }
-    if 1 < b {
-        return Compared::Fault {
-            capture: 2,
-            code: b,
+        },
+        (_, Err(fault)) => Compared::Fault {
+            which: Which::Second,
+            fault,
             at,
-        };
+        },
+        (_, Ok(None)) => Compared::Alike,
+        (_, Ok(Some(_))) => Compared::Differs { at },
     }
-    if b == 0 {
-        return Compared::Alike;
-    }
-    Compared::Differs { at }
 }
 
 // Two captures compared, record by record. As far as they are the same, what comes next stands at the same place of both.
@@ -227,24 +203,15 @@ pub fn compare(first: &[u8], second: &[u8]) -> Compared
     while same_at(first, second, at) {
         at = after(first, at);
     }
-    let f = next_at(first, at);
-    let s = next_at(second, at);
-    let a = number_of(f);
-    let b = number_of(s);
-    told(a, b, at)
+    told(next_at(first, at), next_at(second, at), at)
 }
 
 fn place_of(c: Compared, end: usize) -> usize
     ensures { result ≡ place_by end c }
 {
     match c {
-        Compared::Alike => end,
         Compared::Differs { at } => at,
-        Compared::Fault {
-            capture: _,
-            code: _,
-            at: _,
-        } => end,
+        Compared::Alike | Compared::Fault { .. } => end,
     }
 }
 

@@ -1,13 +1,10 @@
 // The records from the module, each held against the reply of its number.
-ghost use Rattle.std.specs.Prelude.{◌≡◌};
-ghost use Rattle.desk_captures.specs.Captures.{next_at, mark_of};
-
 use crate::show;
-use desk_captures::{Found, TO_MODULE, after, mark_of, next_at, part_at, same_bytes};
+use desk_captures::{TO_MODULE, after, next_at, part_at, record_at, same_bytes};
 use std::io;
 use std::io::Write;
 
-#[derive(Drop)]
+#[derive(Clone, Copy)]
 pub struct Judged {
     // From where in the capture the next one is sought.
     pub at: usize,
@@ -28,17 +25,13 @@ pub(crate) fn new() -> Judged {
     }
 }
 
-// The mark of the record at a place; 0 where none stands.
-pub(crate) fn mark_at(capture: &[u8], at: usize) -> u8
-    ensures { result ≡ mark_of (next_at capture.now at) }
-{
-    mark_of(next_at(capture, at))
-}
-
 // Where the next record from the module stands; or else the end of the capture, or its fault.
 fn sought(capture: &[u8], at: usize) -> usize {
     let mut at = at;
-    while mark_at(capture, at) == TO_MODULE {
+    while let Some(record) = record_at(capture, at) {
+        if record.mark != TO_MODULE {
+            break;
+        }
         at = after(capture, at);
     }
     at
@@ -73,17 +66,12 @@ pub(crate) fn hold(
 // Where there are no more replies: a record behind the last of them is none of the module's.
 pub(crate) fn rest(out: &mut impl Write, capture: &[u8], j: Judged) -> io::Result<()> {
     let at = sought(capture, j.at);
-    let found = next_at(capture, at);
-    match found {
-        Found::End => show::counts(out, j.same, j.more),
-        Found::Record {
-            mark: _,
-            start: _,
-            len: _,
-        } => show::differs(out, j.same.wrapping_add(1), at, part_at(capture, at), b""),
-        Found::Fault { code } => {
+    match next_at(capture, at) {
+        Ok(None) => show::counts(out, j.same, j.more),
+        Ok(Some(_)) => show::differs(out, j.same.wrapping_add(1), at, part_at(capture, at), b""),
+        Err(fault) => {
             show::counts(out, j.same, j.more)?;
-            show::fault(out, code, at)
+            show::fault(out, fault, at)
         }
     }
 }

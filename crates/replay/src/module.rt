@@ -1,9 +1,9 @@
 // The module, set up as `listen`'s, and what it is fed.
 use crate::judged;
 use crate::judged::Judged;
-use desk_captures::{TO_MODULE, after, part_at};
+use desk_captures::{TO_MODULE, after, part_at, record_at};
 use device_feed::feed;
-use device_replies::numbers_of;
+use device_replies::Answer;
 use device_state::{PRESENT, Setup, State};
 use std::io;
 use std::io::Write;
@@ -13,7 +13,7 @@ use wire_frames::frame::FRAME;
 use wire_numbers::COMPAT_UNSET;
 
 // How far it has come: its state, what became of its replies, how many bytes the last call took, and whether a restart is due.
-#[derive(Drop)]
+#[derive(Clone, Copy)]
 pub struct Module {
     pub state: State,
     pub judged: Judged,
@@ -33,20 +33,6 @@ fn listening() -> Setup {
     }
 }
 
-// The answers that have a reply: 2, and 3, a restart.
-fn held(
-    out: &mut impl Write,
-    judged: Judged,
-    number: u8,
-    capture: &[u8],
-    reply: &[u8],
-) -> io::Result<Judged> {
-    if number == 2 || number == 3 {
-        return judged::hold(out, judged, capture, reply);
-    }
-    Ok(judged)
-}
-
 // One call, as far as the end of a frame.
 fn call(
     out: &mut impl Write,
@@ -57,18 +43,23 @@ fn call(
     meta: &mut [u8; 12],
 ) -> io::Result<Module> {
     let mut reply = [0u8; FRAME];
-    let state = m.state;
-    let before = m.judged;
-    let f = feed(listening(), state, bytes, flash, meta, &mut reply);
-    let answer = f.answer;
-    let said = numbers_of(answer);
-    let next = f.state;
-    let j = held(out, before, said.number, capture, first(&reply, said.len))?;
+    let fed = feed(listening(), m.state, bytes, flash, meta, &mut reply);
+    let (judged, restarted) = match fed.answer {
+        Answer::Reply { len, .. } => (
+            judged::hold(out, m.judged, capture, first(&reply, len))?,
+            false,
+        ),
+        Answer::Restart { len, .. } => (
+            judged::hold(out, m.judged, capture, first(&reply, len))?,
+            true,
+        ),
+        _ => (m.judged, false),
+    };
     Ok(Module {
-        state: next,
-        judged: j,
-        taken: f.taken,
-        restarted: said.number == 3,
+        state: fed.state,
+        judged,
+        taken: fed.taken,
+        restarted,
     })
 }
 
@@ -90,27 +81,18 @@ fn record(
     let mut at: usize = 0;
     while at < bytes.len() {
         m = call(out, m, capture, &bytes[at..], flash, meta)?;
-        let n = m.taken;
-        if !goes_on(&m) {
+        if !goes_on(&m) || m.taken == 0 || bytes.len() - at < m.taken {
             break;
         }
-        if n == 0 {
-            break;
-        }
-        if bytes.len() - at < n {
-            break;
-        }
-        at += n;
+        at += m.taken;
     }
     Ok(m)
 }
 
 fn new() -> Module {
-    let state = device_start::new_state(false);
-    let j = judged::new();
     Module {
-        state: state,
-        judged: j,
+        state: device_start::new_state(false),
+        judged: judged::new(),
         taken: 0,
         restarted: false,
     }
@@ -125,12 +107,8 @@ pub(crate) fn all(
 ) -> io::Result<Module> {
     let mut m = new();
     let mut at: usize = 0;
-    loop {
-        let mark = judged::mark_at(capture, at);
-        if mark == 0 {
-            break;
-        }
-        if mark == TO_MODULE {
+    while let Some(found) = record_at(capture, at) {
+        if found.mark == TO_MODULE {
             m = record(out, m, capture, part_at(capture, at), flash, meta)?;
         }
         if !goes_on(&m) {

@@ -1,4 +1,5 @@
 // What is printed, part by part.
+use desk_captures::{Fault, fault_number};
 use std::io;
 use std::io::Write;
 
@@ -21,8 +22,8 @@ pub(crate) fn counts(out: &mut impl Write, same: u64, more: u64) -> io::Result<(
     Ok(())
 }
 
-pub(crate) fn fault(out: &mut impl Write, code: u8, at: usize) -> io::Result<()> {
-    writeln!(out, "fault {code} at {at}")
+pub(crate) fn fault(out: &mut impl Write, fault: Fault, at: usize) -> io::Result<()> {
+    writeln!(out, "fault {} at {at}", fault_number(fault))
 }
 
 // A record that is not the reply of its number, and that reply, which may be none.

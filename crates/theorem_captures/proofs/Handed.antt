@@ -7,8 +7,7 @@ use native.Mathlib.Omega.{arith}
 use borrow.Author.Tests.{ne_eqb, le-ltb}
 use lib.ListN.{length, take, drop, length-append}
 use lib.Seq.{take-append_seam, drop-append_seam, drop-drop}
-use Rattle.desk_captures.specs.declared.Found.{Found}
-use Rattle.desk_captures.specs.Captures.{is_mark, Front, nothing, stands, fault, front_of, found_by, next_at, after_by, after_at, part_at}
+use Rattle.desk_captures.specs.Captures.{is_mark, Front, nothing, stands, fault, front_of, Found, recorded, found_by, next_at, after_by, after_at, part_at}
 use Rattle.desk_captures.specs.Captures.{Reading, next, count_of, joined, read_from, compared, compare_of}
 use Rattle.desk_captures.proofs.Readings.{past, front_read, part_front}
 use Rattle.theorem_captures.specs.Handed.{Item, written, Fit, Last, HandsOut, RecordsHanded, ended_by, listed, ComparedAsListed}
@@ -40,7 +39,7 @@ module _ (r : Item) (l : List ℕ) (m : is_mark r.mark ≡ true) (p : 1 ≤ leng
 
   -- and at a place of a capture that goes on so
   module _ (s : List ℕ) (at : ℕ) (d : drop at s ≡ laid) where
-    pub laid_next : next_at s at ≡ Found.Record r.mark (at + 2) (length r.bytes)
+    pub laid_next : next_at s at ≡ recorded r.mark (at + 2) (length r.bytes)
     unfolding next_at
     laid_next = ap (λ (k : List ℕ). found_by at (front_of k)) d ∙ ap (found_by at) laid_front
 
@@ -62,7 +61,7 @@ last_is : (f : Front) (at : ℕ) (e : Found) → found_by 0 f ≡ e → Last e �
     (found_by at f ≡ e) × ((after_by at (found_by at f) ≡ at) × ((l : List ℕ) (r : Reading) → joined at l f r ≡ ended_by e at))
 last_is nothing at e h w = (h, (refl, λ l r. ap (λ (g : Found). ended_by g at) h))
 last_is (stands m n) at e h w = absurd (subst Last (sym h) w)
-last_is (fault code) at e h w = (h, (refl, λ l r. ap (λ (g : Found). ended_by g at) h))
+last_is (fault f) at e h w = (h, (refl, λ l r. ap (λ (g : Found). ended_by g at) h))
 
 module _ (t : List ℕ) (e : Found) (h : next_at t 0 ≡ e) (w : Last e) where
   handed : (rs : List Item) → Fit rs → (s : List ℕ) (at z : ℕ) → drop at s ≡ written rs ++ t → at + length (written rs) ≡ z → HandsOut s at rs e z

@@ -1,5 +1,5 @@
 -- A part lies at its place of the capture, and what a comparison shows is a record of the second.
-use Rattle.std.specs.Prelude.{if◌then◌else◌}
+use Rattle.std.specs.Prelude.{if◌then◌else◌, Some, None, Ok, Err}
 use Prim.Native.Nat.{ℕ, zero, suc, ◌+◌, ◌≤◌}
 use mathlib.Core.Path.{◌≡◌, refl, ap, sym, subst, ◌∙◌}
 use mathlib.Core.Bool.{Bool, true, false, ◌&&◌}
@@ -8,24 +8,23 @@ use native.Mathlib.Omega.{arith}
 use lib.ListN.{length, take, drop, length-drop, take-append-drop}
 use lib.Seq.{length-take-le, drop-drop}
 use lib.Dec.{T, eqb}
-use Rattle.desk_captures.specs.declared.Found.{Found}
 use Rattle.desk_captures.specs.declared.Compared.{Compared}
-use Rattle.desk_captures.specs.Captures.{Front, nothing, stands, fault, front_of, found_by, next_at, start_of, size_of, part_at, Reading, ended, faulty, next}
+use Rattle.desk_captures.specs.Captures.{Front, nothing, stands, fault, front_of, Found, found_by, next_at, start_of, size_of, part_at, Reading, ended, faulty, next}
 use Rattle.desk_captures.specs.Captures.{count_of, joined, read_from, alike, compared, compare_of, place_by, difference_place, difference_of}
 use Rattle.desk_captures.proofs.Fronts.{at_end, front_is, fits}
 use Rattle.desk_captures.proofs.Readings.{part_front, counted}
 use Rattle.theorem_captures.specs.Handed.{PartsInPlace, Shown, DifferenceShown}
 
 abbrev is_record : Found → Bool
-is_record Found.End = false
-is_record (Found.Record m i n) = true
-is_record (Found.Fault code) = false
+is_record (Ok None) = false
+is_record (Ok (Some r)) = true
+is_record (Err f) = false
 
 -- a record's bytes begin after its two mark bytes
 two_past : (f : Front) (at : ℕ) → T (is_record (found_by at f)) → start_of (found_by at f) ≡ at + 2
 two_past nothing at t = absurd t
 two_past (stands m n) at t = refl
-two_past (fault code) at t = absurd t
+two_past (fault f) at t = absurd t
 
 pub parts_in_place : PartsInPlace
 unfolding part_at next_at
@@ -50,13 +49,13 @@ parts_in_place s at m i n e =
 -- each record of a reading stands at its place of the capture y, with a byte or more
 abbrev Stand : List ℕ → Reading → Type 0
 Stand y ended = Unit {0}
-Stand y (faulty code at) = Unit {0}
+Stand y (faulty w at) = Unit {0}
 Stand y (next r s) = (1 ≤ length (part_at y r.at)) × Stand y s
 
 abbrev differs : Compared → Bool
 differs Compared.Alike = false
 differs (Compared.Differs at) = true
-differs (Compared.Fault capture code at) = false
+differs (Compared.Fault which w at) = false
 
 module _ (y : List ℕ) where
   one_stands : (at : ℕ) (l : List ℕ) → drop at y ≡ l → (r : Reading) → Stand y r → Stand y (joined at l (front_of l) r)
@@ -86,11 +85,11 @@ module _ (y : List ℕ) where
   -- the place that a comparison tells is a record's of the second
   told_stands : (f s : Reading) → Stand y s → T (differs (compared f s)) → 1 ≤ length (part_at y (place_by 0 (compared f s)))
   unfolding compared
-  told_stands (faulty code at) s ok t = absurd t
-  told_stands ended (faulty code at) ok t = absurd t
+  told_stands (faulty w at) s ok t = absurd t
+  told_stands ended (faulty w at) ok t = absurd t
   told_stands ended ended ok t = absurd t
   told_stands ended (next r s) ok t = ok.0
-  told_stands (next q f) (faulty code at) ok t = absurd t
+  told_stands (next q f) (faulty w at) ok t = absurd t
   told_stands (next q f) ended ok t = absurd t
   told_stands (next q f) (next r s) ok t = go (eqb q.mark r.mark && alike q.bytes r.bytes) (told_stands f s ok.1) t
     where
@@ -120,4 +119,4 @@ difference_shown x y = go (compare_of x y) refl
     go : (c : Compared) → compare_of x y ≡ c → Shown x y c
     go Compared.Alike e = ap (λ (c : Compared). part_at y (place_by (length y) c)) e ∙ none_at_end y
     go (Compared.Differs at) e = (stands_there x y at e, ap (λ (c : Compared). part_at y (place_by (length y) c)) e)
-    go (Compared.Fault capture code at) e = ap (λ (c : Compared). part_at y (place_by (length y) c)) e ∙ none_at_end y
+    go (Compared.Fault which w at) e = ap (λ (c : Compared). part_at y (place_by (length y) c)) e ∙ none_at_end y

@@ -12,17 +12,14 @@ use Rattle.c_desk.specs.contracts as c_desk_contracts
 pub next_at : Determined desk_captures_contracts.next_at.ended desk_captures.next_at.Reads.Post
 next_at κs a o o' p q i = (plain p q i, (tt, (tt, tt)))
 
+pub fault_number : Determined desk_captures_contracts.fault_number.ended desk_captures.fault_number.Reads.Post
+fault_number κs a o o' p q i = (plain p q i, (tt, tt))
+
 pub number_of : Determined desk_captures_contracts.number_of.ended desk_captures.number_of.Reads.Post
 number_of κs a o o' p q i = (plain p q i, (tt, tt))
 
-pub mark_of : Determined desk_captures_contracts.mark_of.ended desk_captures.mark_of.Reads.Post
-mark_of κs a o o' p q i = (plain p q i, (tt, tt))
-
-pub start_of : Determined desk_captures_contracts.start_of.ended desk_captures.start_of.Reads.Post
-start_of κs a o o' p q i = (plain p q i, (tt, tt))
-
-pub size_of : Determined desk_captures_contracts.size_of.ended desk_captures.size_of.Reads.Post
-size_of κs a o o' p q i = (plain p q i, (tt, tt))
+pub record_at : Determined desk_captures_contracts.record_at.ended desk_captures.record_at.Reads.Post
+record_at κs a o o' p q i = (plain p q i, (tt, (tt, tt)))
 
 pub after : Determined desk_captures_contracts.after.ended desk_captures.after.Reads.Post
 after κs a o o' p q i = (plain p q i, (tt, (tt, tt)))

@@ -1,5 +1,6 @@
-use mathlib.Core.Path.{refl, ap, sym, ◌∙◌}
-use Rattle.desk_captures.specs.Captures.{number_of, compare_of}
+use mathlib.Core.Path.{refl, ap₂, sym, ◌∙◌}
+use Rattle.desk_captures.specs.Captures.{compare_of}
+use Rattle.desk_captures.specs.Inner.{told_by}
 use Rattle.desk_captures.proofs.Comparing.{is_told, turned, less}
 use Rattle.desk_captures.proofs.compare.Goals as goal
 
@@ -28,14 +29,5 @@ loop-at-preserved c =
 pub returns : goal.returns
 returns c =
     let a = c.args in
-    c.told.ensures ∙
-    is_told
-    a.first.now
-    a.second.now
-    c.loop-at.at
-    (sym c.same_at.ensures ∙ c.loop-at-test.false)
-    _
-    _
-    (c.number_of-a.ensures ∙ ap number_of c.next_at-f.ensures)
-    (c.number_of-b.ensures ∙ ap number_of c.next_at-s.ensures) ∙
-    c.loop-at.invariant
+    c.told.ensures ∙ ap₂ (told_by c.loop-at.at) c.next_at.ensures c.next_at-2.ensures ∙
+    is_told a.first.now a.second.now c.loop-at.at (sym c.same_at.ensures ∙ c.loop-at-test.false) ∙ c.loop-at.invariant
