@@ -16,7 +16,7 @@ use Rattle.wire_info.specs.declared.InfoData.{InfoData}
 use Rattle.wire_frames.specs.Fields.{len_of, data_of, status_of}
 use Rattle.wire_frames.specs.declared.frame.Kind.{Kind}
 use Rattle.wire_frames.specs.declared.frame.Stop.{Stop}
-use Rattle.wire_frames.specs.Stored.{ended, no_beginning, said_of, seen, Read, part_of}
+use Rattle.wire_frames.specs.Stored.{said_of, seen, read_of}
 use Rattle.wire_frames.proofs.Parts.{part_of_whole}
 use Rattle.desk_replies.specs.declared.Head.{Head}
 use Rattle.desk_replies.specs.declared.Contents.{Contents}
@@ -35,35 +35,6 @@ data_short f n h =
 
 pub data_part : (f : List ℕ) (n : ℕ) → take (10 + n - 10) (drop 10 f) ≡ take n (drop 10 f)
 data_part f n = let k : 10 + n - 10 ≡ n = omega arith in rw k refl
-
--- Info's bytes, copied over as many
-pub info-part : (f : List ℕ) → length f ≡ 64 → (b : List ℕ) →
-    b ≡ take (length (take 18 (drop 10 f))) (take 18 (drop 10 f)) ++ drop (length (take 18 (drop 10 f))) (replicate {A = ℕ} 18 0) → b ≡ take 18 (drop 10 f)
-info-part f l b e =
-    let d : List ℕ = take 18 (drop 10 f) in
-    let k : length d ≡ 18 = length-take-le 18 (drop 10 f) (rw (length-drop 10 f) (omega arith)) in
-    let z : drop (length d) (replicate {A = ℕ} 18 0) ≡ [] = rw k refl in
-    e ∙ ap (λ (x : List ℕ). take (length d) d ++ x) z ∙ append-nil (take (length d) d) ∙ take_all (length d) d (omega arith)
-
--- the tests on command and length
-pub sized_not : (cmd len want size : ℕ) → (cmd ≡ want → ⊥) → false ≡ (eqb cmd want && eqb len size)
-sized_not cmd len want size h = simp (ne_eqb cmd want h)
-
-pub sized_same : (cmd len want size : ℕ) → cmd ≡ want → eqb len size ≡ (eqb cmd want && eqb len size)
-sized_same cmd len want size h = simp (eq-eqb cmd want h)
-
-pub id_not : (cmd len : ℕ) → (cmd ≡ 5 → ⊥) → false ≡ (eqb cmd 5 && (leb 1 len && leb len 16))
-id_not cmd len h = simp (ne_eqb cmd 5 h)
-
-pub id_none : (cmd len : ℕ) → len < 1 → false ≡ (eqb cmd 5 && (leb 1 len && leb len 16))
-id_none cmd len h = simp (lt-leb 1 len h) (go (eqb cmd 5))
-  where
-    go : (t : Bool) → false ≡ (t && false)
-    go true = refl
-    go false = refl
-
-pub id_there : (cmd len : ℕ) → cmd ≡ 5 → 1 ≤ len → leb len 16 ≡ (eqb cmd 5 && (leb 1 len && leb len 16))
-id_there cmd len h k = simp (eq-eqb cmd 5 h, le-leb 1 len k)
 
 -- the contents of data d, of which t, u and v are what the tests say
 module _ (cmd len : ℕ) (d : List ℕ) where
@@ -121,22 +92,10 @@ module _ (f : List ℕ) (h : Head) (e : h ≡ head_of f) where
       no (eqb (status_of f) 0) _ _ (ne_eqb (status_of f) 0 s)
 
 -- a call
-module _ (cap : ℕ) (f : List ℕ) (g : ℕ) (l f' : List ℕ) (g' n : ℕ) (s : Stop) (e : seen f' g' n s ≡ part_of cap false f g l) where
-  -- what has ended stands in as many bytes as a frame has
-  pub ended_whole : (k : Kind) → said_of s ≡ ended k → length f ≡ 12 + cap
-  unfolding part_of
-  ended_whole k w = go (eqb (length f) (12 + cap)) refl
-    where
-      go : (t : Bool) → eqb (length f) (12 + cap) ≡ t → length f ≡ 12 + cap
-      go true x = eqb-true _ _ x
-      go false x =
-          let a : said_of s ≡ no_beginning = ap (λ (r : Read). r.said) (simp x at e) in
-          let z : ◌≡◌ {A = ℕ} 0 1 = cc in
-          absurd (omega arith)
-
-  pub heard_part : (h : Heard) → told_of h f' ≡ heard_by (said_of s) f' → hearing_to f' g' n h ≡ hear_part_of cap f g l
-  unfolding hear_part_of
-  heard_part h w = ap (λ (t : Told). record { bytes = f'; got = g'; taken = n; told = t }) w ∙ ap hearing_of e
+pub heard_in : (cap : ℕ) (f : List ℕ) (g : ℕ) (l f' : List ℕ) (g' n : ℕ) (s : Stop) → seen f' g' n s ≡ read_of cap false f g l →
+    (h : Heard) → told_of h f' ≡ heard_by (said_of s) f' → hearing_to f' g' n h ≡ hear_of cap f g l
+unfolding hear_of
+heard_in cap f g l f' g' n s e h w = ap (λ (t : Told). record { bytes = f'; got = g'; taken = n; told = t }) w ∙ ap hearing_of e
 
 pub part_heard : (cap : ℕ) (f : List ℕ) (g : ℕ) (l : List ℕ) → length f ≡ 12 + cap → hear_part_of cap f g l ≡ hear_of cap f g l
 unfolding hear_part_of hear_of

@@ -4,9 +4,8 @@
 #![tactic(auto)]
 
 ghost use Rattle.std.specs.Prelude.{◌≡◌, length, take, drop, eqb, leb, ◌&&◌};
-ghost use Rattle.wire_frames.specs.declared.frame.Kind.{Kind};
 ghost use Rattle.wire_frames.specs.Fields.{len_of, data_of};
-ghost use Rattle.wire_frames.specs.Stored.{ended, said_of};
+ghost use Rattle.wire_frames.specs.Stored.{said_of};
 ghost use Rattle.desk_replies.specs.Replies.{
   head_of,
   contents_of,
@@ -19,12 +18,12 @@ ghost use Rattle.desk_replies.specs.Replies.{
   hearing_to,
 };
 
-use wire_frames::frame::{Frame, FrameBytes, Stop};
+use wire_frames::frame::{FRAME, Frame, FrameBytes, Stop};
 use wire_info::InfoData;
 use wire_numbers::le;
 
 // The numbers of a frame's header.
-#[derive(Clone, Copy)]
+#[derive(Clone, Copy, Debug, PartialEq, Eq)]
 pub struct Head {
     pub cmd: u8,
     pub status: u8,
@@ -84,8 +83,7 @@ pub fn data_of<'a>(f: &'a [u8], head: Head) -> &'a [u8]
     &f[10..10 + len]
 }
 
-fn numbers(f: &[u8]) -> Head
-    requires { length f.now ≡ 64 }
+fn numbers(f: &FrameBytes) -> Head
     ensures { result ≡ head_of f.now }
 {
     Head {
@@ -97,8 +95,7 @@ fn numbers(f: &[u8]) -> Head
     }
 }
 
-fn info_bytes(f: &[u8]) -> [u8; 18]
-    requires { length f.now ≡ 64 }
+fn info_bytes(f: &FrameBytes) -> [u8; 18]
     ensures { result ≡ take 18 (drop 10 f.now) }
 {
     let mut b = [0u8; 18];
@@ -110,27 +107,18 @@ fn info_bytes(f: &[u8]) -> [u8; 18]
 fn is_id(cmd: u8, len: u16) -> bool
     ensures { result ≡ (eqb cmd 5 && (leb 1 len && leb len 16)) }
 {
-    if cmd != 5 {
-        return false;
-    }
-    if len < 1 {
-        return false;
-    }
-    len <= 16
+    cmd == 5 && 1 <= len && len <= 16
 }
 
 fn is_sized(cmd: u8, len: u16, want: u8, size: u16) -> bool
     ensures { result ≡ (eqb cmd want && eqb len size) }
 {
-    if cmd != want {
-        return false;
-    }
-    len == size
+    cmd == want && len == size
 }
 
 // The contents by command and length.
-fn typed(f: &[u8], cmd: u8, len: u16) -> Contents
-    requires { (length f.now ≡ 64) × (len ≡ len_of f.now) }
+fn typed(f: &FrameBytes, cmd: u8, len: u16) -> Contents
+    requires { len ≡ len_of f.now }
     ensures { contents_to result (data_of f.now) ≡ contents_of cmd len (data_of f.now) }
 {
     if is_sized(cmd, len, 0, InfoData::SIZE) {
@@ -151,23 +139,18 @@ fn typed(f: &[u8], cmd: u8, len: u16) -> Contents
 }
 
 // A good frame: of status 0 it is a request.
-fn good(f: &[u8]) -> Heard
-    requires { length f.now ≡ 64 }
+fn good(f: &FrameBytes) -> Heard
     ensures { told_of result f.now ≡ good_of f.now }
 {
-    let h = numbers(f);
-    if h.status == 0 {
-        return Heard::Request { head: h };
+    let head = numbers(f);
+    if head.status == 0 {
+        return Heard::Request { head };
     }
-    let c = typed(f, h.cmd, h.len);
-    Heard::Reply {
-        head: h,
-        contents: c,
-    }
+    let contents = typed(f, head.cmd, head.len);
+    Heard::Reply { head, contents }
 }
 
-fn told(f: &[u8], stop: Stop) -> Heard
-    requires { said_of stop ≡ ended Kind.Good → length f.now ≡ 64 }
+fn told(f: &FrameBytes, stop: Stop) -> Heard
     ensures { told_of result f.now ≡ heard_by (said_of stop) f.now }
 {
     match stop {
@@ -186,13 +169,13 @@ fn told(f: &[u8], stop: Stop) -> Heard
 pub fn hear_part(f: &mut [u8], got: usize, bytes: &[u8]) -> Part
     ensures { hearing_to f.new result.got result.taken result.heard ≡ hear_part_of 52 f.old got bytes.now }
 {
-    let p = wire_reader::read_part(f, got, false, bytes);
-    let stop = p.stop;
-    let h = told(f, stop);
+    if let Some(frame) = f.as_mut_array::<FRAME>() {
+        return hear_in(frame, got, bytes);
+    }
     Part {
-        got: p.got,
-        taken: p.taken,
-        heard: h,
+        got,
+        taken: 0,
+        heard: Heard::Refused,
     }
 }
 
@@ -200,21 +183,24 @@ pub fn hear_part(f: &mut [u8], got: usize, bytes: &[u8]) -> Part
 pub fn hear_in(f: &mut FrameBytes, got: usize, bytes: &[u8]) -> Part
     ensures { hearing_to f.new result.got result.taken result.heard ≡ hear_of 52 f.old got bytes.now }
 {
-    hear_part(f, got, bytes)
+    let read = wire_reader::read_in(f, got, false, bytes);
+    Part {
+        got: read.got,
+        taken: read.taken,
+        heard: told(f, read.stop),
+    }
 }
 
 // The same with the frame by value.
 pub fn hear(frame: Frame, bytes: &[u8]) -> Taken
     ensures { hearing_to result.frame.bytes result.frame.got result.taken result.heard ≡ hear_of 52 frame.bytes frame.got bytes.now }
 {
-    let mut s = frame;
-    let got = s.got;
-    let p = hear_in(&mut s.bytes, got, bytes);
-    s.got = p.got;
-    let h = p.heard;
+    let mut frame = frame;
+    let part = hear_in(&mut frame.bytes, frame.got, bytes);
+    frame.got = part.got;
     Taken {
-        frame: s,
-        taken: p.taken,
-        heard: h,
+        frame,
+        taken: part.taken,
+        heard: part.heard,
     }
 }

@@ -3,17 +3,17 @@ use Rattle.desk_replies.specs.declared.Head.{Head}
 use Rattle.desk_replies.proofs.Hearing.{good_request, good-reply}
 use Rattle.desk_replies.proofs.good.Goals as goal
 
-pub returns-then-h-eq0 : goal.returns-then-h-eq0
-returns-then-h-eq0 c =
+pub returns-then-head-eq0 : goal.returns-then-head-eq0
+returns-then-head-eq0 c =
     let a = c.args in
-    good_request a.f.now _ c.numbers-h.ensures c.if-h-eq0.true
+    good_request a.f.now _ c.numbers-head.ensures c.if-head-eq0.true
 
-pub typed-c-requires : goal.typed-c-requires
-typed-c-requires c =
-    (c.requires, ap (λ (h : Head). h.len) c.numbers-h.ensures)
+pub typed-contents-requires : goal.typed-contents-requires
+typed-contents-requires c =
+    ap (λ (h : Head). h.len) c.numbers-head.ensures
 
 pub returns : goal.returns
 returns c =
     let a = c.args in
-    good-reply a.f.now _ c.numbers-h.ensures c.if-h-eq0.false c.typed-c.result
-    c.typed-c.ensures
+    good-reply a.f.now _ c.numbers-head.ensures c.if-head-eq0.false c.typed-contents.result
+    c.typed-contents.ensures

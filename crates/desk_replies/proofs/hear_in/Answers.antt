@@ -1,11 +1,7 @@
-use mathlib.Core.Path.{◌≡◌, ◌∙◌}
-use lib.ListN.{length}
-use Rattle.desk_replies.proofs.Hearing.{part_heard}
-use borrow.Author.Rules.{rules}
+use Rattle.desk_replies.proofs.Hearing.{heard_in}
 use Rattle.desk_replies.proofs.hear_in.Goals as goal
 
 pub returns : goal.returns
 returns c =
     let a = c.args in
-    let l : length a.f.now ≡ 64 = search rules in
-    c.hear_part.ensures ∙ part_heard 52 a.f.now a.got a.bytes.now l
+    heard_in 52 a.f.now a.got a.bytes.now _ _ _ c.read_in-read.result.stop c.read_in-read.ensures c.told.result c.told.ensures
