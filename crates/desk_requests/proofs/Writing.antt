@@ -84,5 +84,5 @@ pub data_fits : (cap len addr : ℕ) → too_large cap len addr ≡ false → le
 data_fits cap len addr e = go (ltb cap len) refl e
   where
     go : (t : Bool) → ltb cap len ≡ t → t || leb (256 ^ 3) addr ≡ false → len ≤ cap
-    go true w x = let z : ◌≡◌ {A = ℕ} 0 1 = cc in absurd (omega arith)
+    go true w x = cc
     go false w x = ltb-false _ _ w
