@@ -3,8 +3,7 @@
 
 #![tactic(auto)]
 
-ghost use Rattle.std.specs.Prelude.{◌≡◌, ◌++◌, ◌∷◌, [], ◌≤◌, eqb, length};
-ghost use Rattle.std.proofs.Math.Seq.{paste};
+ghost use Rattle.std.specs.Prelude.{◌≡◌, ◌++◌, ◌∷◌, [], eqb, length};
 ghost use Rattle.laws.specs.Low.{low_bytes};
 ghost use Rattle.device_start.specs.Starts.{new_state};
 ghost use Rattle.device_replies.specs.Answers.{mute};
@@ -42,23 +41,18 @@ pub fn holds_setup(setup: &[u8]) -> bool
 }
 
 // Whether these bytes are a state's: as many, and flags that are 0 or 1.
+#[tactic(auto, unfolding(crate::specs::Layout::holds_state))]
 pub fn holds_state(state: &[u8]) -> bool
     ensures { result ≡ holds_state 52 64 state.now }
 {
-    if state.len() != STATE_SIZE {
-        return false;
-    }
-    if 2 <= state[SELECTED] {
-        return false;
-    }
-    state[CLOSED] < 2
+    state.len() == STATE_SIZE && state[SELECTED] < 2 && state[CLOSED] < 2
 }
 
 // A flag's byte.
 pub fn flag(b: bool) -> u8
     ensures { result ≡ flag_byte b }
 {
-    if b { 1 } else { 0 }
+    u8::from(b)
 }
 
 // What a state has beside its arrays, in 8 bytes.
@@ -92,46 +86,39 @@ pub fn new_bytes(closed: bool) -> [u8; STATE_SIZE]
     new
 }
 
-// What a call said, in the first half of an answer.
-fn lay_said(a: &mut [u8], said: Said)
-    requires { 16 ≤ length a.old }
-    ensures { a.new ≡
-        paste a.old 0 (said.number ∷ said.mode ∷ (low_bytes 2 said.len ++ (said.wait ∷ said.why ∷ 0 ∷ 0 ∷ []))) 8 }
+// What a call said: the first half of an answer.
+fn said_bytes(said: Said) -> [u8; 8]
+    ensures { result ≡
+        said.number ∷ said.mode ∷ (low_bytes 2 said.len ++ (said.wait ∷ said.why ∷ 0 ∷ 0 ∷ [])) }
 {
-    a[0] = said.number;
-    a[1] = said.mode;
-    a[2] = (said.len % 256) as u8;
-    a[3] = (said.len / 256 % 256) as u8;
-    a[4] = said.wait;
-    a[5] = said.why;
-    a[6] = 0;
-    a[7] = 0;
+    [
+        said.number,
+        said.mode,
+        (said.len % 256) as u8,
+        (said.len / 256 % 256) as u8,
+        said.wait,
+        said.why,
+        0,
+        0,
+    ]
 }
 
-// How many bytes were taken, in the second.
-fn lay_taken(a: &mut [u8], taken: usize)
-    requires { 16 ≤ length a.old }
-    ensures { a.new ≡ paste a.old 8 (low_bytes 8 taken) 8 }
+// How many bytes were taken: the second half.
+fn taken_bytes(taken: usize) -> [u8; 8]
+    ensures { result ≡ low_bytes 8 taken }
 {
-    a[8] = (taken % 256) as u8;
-    a[9] = (taken / 256 % 256) as u8;
-    a[10] = (taken / 256 / 256 % 256) as u8;
-    a[11] = (taken / 256 / 256 / 256 % 256) as u8;
-    a[12] = (taken / 256 / 256 / 256 / 256 % 256) as u8;
-    a[13] = (taken / 256 / 256 / 256 / 256 / 256 % 256) as u8;
-    a[14] = (taken / 256 / 256 / 256 / 256 / 256 / 256 % 256) as u8;
-    a[15] = (taken / 256 / 256 / 256 / 256 / 256 / 256 / 256 % 256) as u8;
+    taken.to_le_bytes()
 }
 
-// The answer laid where there is room for one, byte by byte, and its number.
+// The answer laid where there is room for one, and its number.
 pub fn lay_answer(a: &mut [u8], said: Said, taken: usize) -> u8
     ensures { (result ≡ said.number) × (a.new ≡ answered (told_by said) taken a.old) }
 {
     if a.len() < ANSWER_SIZE {
         return said.number;
     }
-    lay_said(a, said);
-    lay_taken(a, taken);
+    a[..8].copy_from_slice(&said_bytes(said));
+    a[8..ANSWER_SIZE].copy_from_slice(&taken_bytes(taken));
     said.number
 }
 
