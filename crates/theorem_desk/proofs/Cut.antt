@@ -4,33 +4,33 @@ use mathlib.Core.Path.{◌≡◌, refl, ap}
 use mathlib.Core.Bool.{Bool, true, false}
 use mathlib.Core.List.{List}
 use lib.Dec.{eqb}
-use native.Mathlib.Omega.{arith}
 use Rattle.laws.specs.Pick.{pick}
 use Rattle.wire_frames.specs.declared.frame.Kind.{Kind}
 use Rattle.wire_frames.specs.Fields.{cmd_of, status_of, len_of, data_of}
 use Rattle.wire_frames.specs.Stored.{Said, quiet, ended, no_beginning, read_of}
 use Rattle.wire_frames.proofs.Anywhere.{cut_stopped, cut_going}
 use Rattle.desk_replies.specs.declared.Head.{Head}
-use Rattle.desk_replies.specs.Replies.{Typed, nothing, request, reply, head_of, contents_of, good_of, heard_by, hearing_of, hear_of}
+use Rattle.desk_replies.specs.Replies.{Typed, Told, nothing, request, reply, head_of, contents_of, good_of, heard_by, hearing_of, hear_of}
 use Rattle.theorem_desk.specs.Desk.{HeardInParts}
 
--- only a reading that goes on tells nothing
-good-told : (f : List ℕ) → good_of f ≡ nothing → ◌≡◌ {A = ℕ} 0 1
+-- what holds of each request and each reply holds of what a good frame tells
+pub good_told : (P : Told → Type 0) → ((h : Head) (d : List ℕ) → P (request h d)) → ((h : Head) (c : Typed) → P (reply h c)) → (f : List ℕ) → P (good_of f)
 unfolding good_of
-good-told f e = go (head_of f) (data_of f) (contents_of (cmd_of f) (len_of f) (data_of f)) (eqb (status_of f) 0) e
+good_told P asked answered f = go (eqb (status_of f) 0)
   where
-    go : (h : Head) (d : List ℕ) (c : Typed) (t : Bool) → pick t (request h d) (reply h c) ≡ nothing → ◌≡◌ {A = ℕ} 0 1
-    go h d c true x = cc
-    go h d c false x = cc
+    go : (t : Bool) → P (pick t (request (head_of f) (data_of f)) (reply (head_of f) (contents_of (cmd_of f) (len_of f) (data_of f))))
+    go true = asked _ _
+    go false = answered _ _
 
+-- only a reading that goes on tells nothing
 told_quiet : (s : Said) (f : List ℕ) → heard_by s f ≡ nothing → s ≡ quiet
 told_quiet quiet f e = refl
-told_quiet (ended Kind.Good) f e = let z : ◌≡◌ {A = ℕ} 0 1 = good-told f e in absurd (omega arith)
-told_quiet (ended Kind.Unsupported) f e = let z : ◌≡◌ {A = ℕ} 0 1 = cc in absurd (omega arith)
-told_quiet (ended Kind.PayloadOverflow) f e = let z : ◌≡◌ {A = ℕ} 0 1 = cc in absurd (omega arith)
-told_quiet (ended Kind.Overheard) f e = let z : ◌≡◌ {A = ℕ} 0 1 = cc in absurd (omega arith)
-told_quiet (ended Kind.CrcMismatch) f e = let z : ◌≡◌ {A = ℕ} 0 1 = cc in absurd (omega arith)
-told_quiet no_beginning f e = let z : ◌≡◌ {A = ℕ} 0 1 = cc in absurd (omega arith)
+told_quiet (ended Kind.Good) f e = good_told (λ t. t ≡ nothing → ended Kind.Good ≡ quiet) (λ h d x. cc) (λ h c x. cc) f e
+told_quiet (ended Kind.Unsupported) f e = cc
+told_quiet (ended Kind.PayloadOverflow) f e = cc
+told_quiet (ended Kind.Overheard) f e = cc
+told_quiet (ended Kind.CrcMismatch) f e = cc
+told_quiet no_beginning f e = cc
 
 -- 3. heard in parts
 pub heard_in_parts : (cap : ℕ) → HeardInParts cap

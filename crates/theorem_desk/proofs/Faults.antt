@@ -18,6 +18,7 @@ use Rattle.wire_frames.specs.Stored.{ended, begun, ready, store, well_of, read_o
 use Rattle.desk_replies.specs.declared.Head.{Head}
 use Rattle.desk_replies.specs.Replies.{Typed, nothing, request, reply, faulty, refused, head_of, contents_of, good_of, heard_by, hear_of}
 use Rattle.theorem_desk.specs.Desk.{FaultsKnown}
+use Rattle.theorem_desk.proofs.Cut.{good_told}
 
 -- none of these is an overheard frame
 abbrev Heeded : Kind → Type 0
@@ -37,8 +38,8 @@ module _ (cap : ℕ) where
   heeded_header f = go (ltb 5 (cmd_of f) || ltb 7 (status_of f)) (ltb cap (len_of f))
     where
       go : (a b : Bool) → HeededEnd (pick a (Some Kind.Unsupported) (pick b (Some Kind.PayloadOverflow) None))
-      go true b = λ e. let z : ◌≡◌ {A = ℕ} 0 1 = cc in omega arith
-      go false true = λ e. let z : ◌≡◌ {A = ℕ} 0 1 = cc in omega arith
+      go true b = λ e. cc
+      go false true = λ e. cc
       go false false = refl
 
   heeded_whole : (f : List ℕ) → Heeded (checked false f)
@@ -46,8 +47,8 @@ module _ (cap : ℕ) where
   heeded_whole f = go (eqb (crc_of (take (10 + len_of f) f)) (low_first (get_or f (10 + len_of f) 0 ∷ get_or f (11 + len_of f) 0 ∷ [])))
     where
       go : (t : Bool) → Heeded (pick t Kind.Good Kind.CrcMismatch)
-      go true e = let z : ◌≡◌ {A = ℕ} 0 1 = cc in omega arith
-      go false e = let z : ◌≡◌ {A = ℕ} 0 1 = cc in omega arith
+      go true e = cc
+      go false e = cc
 
   heeded_judged : (v : Option Kind) (f : List ℕ) → HeededEnd v → HeededOutcome (judged false v f)
   heeded_judged (Some k) f h = h
@@ -72,19 +73,11 @@ module _ (cap : ℕ) where
       go (Open b) = refl
       go (Sync m) = heeded_started (0xAA ∷ 0x55 ∷ m)
 
-  good-not : (f : List ℕ) (status : ℕ) → good_of f ≡ faulty status → ◌≡◌ {A = ℕ} 0 1
-  unfolding good_of
-  good-not f status e = go (head_of f) (data_of f) (contents_of (cmd_of f) (len_of f) (data_of f)) (eqb (status_of f) 0) e
-    where
-      go : (h : Head) (d : List ℕ) (c : Typed) (t : Bool) → pick t (request h d) (reply h c) ≡ faulty status → ◌≡◌ {A = ℕ} 0 1
-      go h d c true x = cc
-      go h d c false x = cc
-
   abbrev Known : ℕ → Type 0
   Known status = (status ≡ 3) ⊎ ((status ≡ 5) ⊎ (status ≡ 6))
 
   said : (k : Kind) (f : List ℕ) (status : ℕ) → Heeded k → heard_by (ended k) f ≡ faulty status → Known status
-  said Kind.Good f status h e = let z : ◌≡◌ {A = ℕ} 0 1 = good-not f status e in absurd (omega arith)
+  said Kind.Good f status h e = good_told (λ t. t ≡ faulty status → Known status) (λ h d x. cc) (λ h c x. cc) f e
   said Kind.Unsupported f status h e = let z : status ≡ 5 = cc in inr (inl z)
   said Kind.PayloadOverflow f status h e = let z : status ≡ 6 = cc in inr (inr z)
   said Kind.Overheard f status h e = absurd (h refl)
@@ -97,6 +90,6 @@ faults_known cap f g l status e = go (well_of cap false f g) (read_frame cap fal
   where
     go : (t : Bool) (u : Outcome) → well_of cap false f g ≡ t → read_frame cap false (begun cap f g ++ l) ≡ u →
         HeededOutcome (read_frame cap false (begun cap f g ++ l)) → (status ≡ 3) ⊎ ((status ≡ 5) ⊎ (status ≡ 6))
-    go true (Begun q) x y h = let a : nothing ≡ faulty status = rw (x, y) at e in let z : ◌≡◌ {A = ℕ} 0 1 = cc in absurd (omega arith)
+    go true (Begun q) x y h = let a : nothing ≡ faulty status = rw (x, y) at e in cc
     go true (Ended k q r) x y h = said cap k (store cap (ready f) q) status (rw y at h) (rw (x, y) at e)
-    go false u x y h = let a : refused ≡ faulty status = rw x at e in let z : ◌≡◌ {A = ℕ} 0 1 = cc in absurd (omega arith)
+    go false u x y h = let a : refused ≡ faulty status = rw x at e in cc

@@ -52,8 +52,8 @@ done cap r d room e = first (ltb (length room) (12 + cap)) e
       where
         third : (a : Bool) → ltb cap (length d) ≡ a → (b : Bool) → leb (256 ^ 3) r.addr ≡ b → a || b ≡ false →
             Done cap r d (wrote 0 (12 + length d) (over (frame_of r d) room))
-        third true u b v y = let z : ◌≡◌ {A = ℕ} 0 1 = cc in absurd (omega arith)
-        third false u true v y = let z : ◌≡◌ {A = ℕ} 0 1 = cc in absurd (omega arith)
+        third true u b v y = cc
+        third false u true v y = cc
         third false u false v y =
             record {
               short = ltb-false _ _ u;
