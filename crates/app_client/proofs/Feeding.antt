@@ -4,12 +4,12 @@ use mathlib.Core.Path.{◌≡◌, sym, ap, ◌∙◌}
 use mathlib.Core.Bool.{Bool, true, false, not}
 use mathlib.Core.List.{List, ◌++◌}
 use lib.ListN.{length}
-use lib.Dec.{eqb}
-use borrow.Author.Tests.{eqb-true}
 use Rattle.laws.specs.Pick.{pick}
 use Rattle.wire_frames.specs.Reading.{read_frame, Outcome}
 use Rattle.wire_frames.specs.Stored.{begun, ready, ended, Read, out_of, well_of, read_of}
-use Rattle.device_state.specs.Refusals.{lengths_of}
+use Rattle.device_state.specs.declared.refusal.Refusal.{Refusal}
+use Rattle.device_state.specs.Refusals.{refusal_number, lengths_of}
+use Rattle.device_state.proofs.Told.{refusal_some}
 use Rattle.device_feed.specs.Inner.{going, kind_of}
 use Rattle.device_feed.proofs.Feeding.{said_ended, said_quiet, passed_not}
 use Rattle.app_state.specs.declared.AppSetup.{AppSetup}
@@ -46,19 +46,20 @@ module _ (cap : ℕ) (s : AppSetup) (w : AppWorld) (l room : List ℕ) (r : Read
       ap (ended_by r.taken) q ∙ (ap (λ v. after_said v cap s w room r) (sym i) ∙ after)
 
 -- a call that is not refused: its frame is a true beginning
-pub allowed : (cap page : ℕ) (s : AppSetup) (f : List ℕ) (n : AppNumbers) (meta room : ℕ) (x : ℕ) → x ≡ app_refusal_of cap page s f n meta room →
-    (b : Bool) → b ≡ eqb x 0 → b ≡ true → well_of cap true f n.got ≡ true
+pub allowed : (cap page : ℕ) (s : AppSetup) (f : List ℕ) (n : AppNumbers) (meta room : ℕ) →
+    0 ≡ app_refusal_of cap page s f n meta room → well_of cap true f n.got ≡ true
 unfolding app_refusal_of
-allowed cap page s f n meta room x e b w t =
+allowed cap page s f n meta room e =
     let rest = lengths_of cap s.capacity s.capacity meta room n.closed in
-    let one = passed_not (app_set_up page s) (pick (not (well_of cap true f n.got)) 11 rest) 9 (sym e ∙ eqb-true x 0 (sym w ∙ t)) in
+    let one = passed_not (app_set_up page s) (pick (not (well_of cap true f n.got)) 11 rest) 9 (sym e) in
     (passed_not (well_of cap true f n.got) rest 10 one.1).0
 
-module _ (cap page : ℕ) (s : AppSetup) (w : AppWorld) (l room : List ℕ) (x : ℕ) (e : x ≡ refusal_for cap page s w room) (b : Bool) (k : b ≡ eqb x 0) where
-  pub call_taken : b ≡ true → (y : Called) → y ≡ taken_of cap s w l room → y ≡ app_fed_of cap page s w l room
+module _ (cap page : ℕ) (s : AppSetup) (w : AppWorld) (l room : List ℕ) where
+  pub call_taken : 0 ≡ refusal_for cap page s w room → (y : Called) → y ≡ taken_of cap s w l room → y ≡ app_fed_of cap page s w l room
   unfolding app_fed_of
-  call_taken t y q = let z : eqb (refusal_for cap page s w room) 0 ≡ true = rw e at (sym k ∙ t) in q ∙ (simp z)
+  call_taken e y q = q ∙ simp (← e)
 
-  pub call_refused : b ≡ false → refused_by x w room ≡ app_fed_of cap page s w l room
+  pub call_refused : (r : Refusal) → refusal_number r ≡ refusal_for cap page s w room →
+      refused_by (refusal_number r) w room ≡ app_fed_of cap page s w l room
   unfolding app_fed_of
-  call_refused t = let z : eqb (refusal_for cap page s w room) 0 ≡ false = rw e at (sym k ∙ t) in simp (z, e)
+  call_refused r e = simp (← e, refusal_some r)

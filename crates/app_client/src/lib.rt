@@ -51,14 +51,13 @@ pub fn app_feed_in(
         app_fed_of 52 64 setup (record { state = state.old; meta = meta.old }) bytes.now reply.old }
 {
     let n = state.numbers;
-    let refusal = app_state::app_refuses(setup, &state.frame, n, meta.len(), reply.len());
-    if refusal.is_none() {
-        return pass(setup, state, bytes, meta, reply);
+    if let Err(refusal) = app_state::app_refuses(setup, &state.frame, n, meta.len(), reply.len()) {
+        return Passed {
+            taken: 0,
+            answer: refused(refusal),
+        };
     }
-    Passed {
-        taken: 0,
-        answer: refused(refusal),
-    }
+    pass(setup, state, bytes, meta, reply)
 }
 
 // Takes the bytes of a piece up to the end of the first frame in it, answers that frame as the running app, and writes its reply into the room. What the caller

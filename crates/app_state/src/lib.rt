@@ -4,7 +4,7 @@
 #![tactic(auto)]
 
 ghost use Rattle.std.specs.Prelude.{◌≡◌};
-ghost use Rattle.device_state.specs.Refusals.{refusal_number};
+ghost use Rattle.device_state.specs.Refusals.{refusal_told};
 ghost use Rattle.app_state.specs.State.{new_app};
 ghost use Rattle.app_state.specs.Refusals.{app_refusal_of};
 
@@ -56,21 +56,22 @@ pub fn app_new() -> AppState
     }
 }
 
-// The refusal that a call of `app_feed` gives, if any: the first in the table that applies. There is no flash to refuse.
+// Whether a call of `app_feed` is refused, and how: the first in the table that applies. There is no flash to refuse.
+#[tactic(auto, unfolding(crate::specs::Refusals::app_refusal_of))]
 pub fn app_refuses(
     setup: AppSetup,
     f: &FrameBytes,
     n: AppNumbers,
     meta: usize,
     room: usize,
-) -> Refusal
-    ensures { refusal_number result ≡ app_refusal_of 52 64 setup f.now n meta room }
+) -> Result<(), Refusal>
+    ensures { refusal_told result ≡ app_refusal_of 52 64 setup f.now n meta room }
 {
     if !refusal::fits(setup.erase_size, setup.capacity, setup.id_len, PRESENT) {
-        return Refusal::BadSetup;
+        return Err(Refusal::BadSetup);
     }
     if !frame::is_beginning(f, n.got, true) {
-        return Refusal::BadState;
+        return Err(Refusal::BadState);
     }
     refusal::of_lengths(setup.capacity, setup.capacity, meta, room, n.closed)
 }

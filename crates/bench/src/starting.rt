@@ -64,5 +64,5 @@ pub(crate) fn begin(
     let decision = s.mode;
     bench.meta = meta;
     module::adopted(bench, s.state, f, page);
-    tell(out, refusal_number(refusal) as u64, decision)
+    tell(out, refusal.map_or(0, refusal_number) as u64, decision)
 }

@@ -139,7 +139,10 @@ fn unanswered(setup: AppSetup, state: &[u8], meta: usize) -> u8
     ensures { result ≡ app_roomless 52 64 setup (app_from 52 state.now) meta }
 {
     let app = app_from(state);
-    refusal_number(app_refuses(setup, &app.frame, app.numbers, meta, 0))
+    match app_refuses(setup, &app.frame, app.numbers, meta, 0) {
+        Ok(()) => 0,
+        Err(refusal) => refusal_number(refusal),
+    }
 }
 
 // The state is taken out, and laid back.

@@ -5,7 +5,7 @@
 ghost use Rattle.std.specs.Prelude.{◌≡◌, true, ◌≤◌, length};
 ghost use Rattle.wire_numbers.specs.Names.{mode_number};
 ghost use Rattle.laws.specs.Over.{over};
-ghost use Rattle.device_state.specs.Refusals.{set_up, refusal_number};
+ghost use Rattle.device_state.specs.Refusals.{set_up};
 ghost use Rattle.device_early.specs.Early.{early_of};
 ghost use Rattle.c_layout.specs.Layout.{state_size, answer_size, state_bytes, answer_bytes};
 ghost use Rattle.device_start.specs.Starts.{new_state, start_refusal, started_of};
@@ -60,17 +60,20 @@ fn unanswered(setup: Setup, flash: usize, meta: usize) -> u8
     requires { set_up 64 setup ≡ true }
     ensures { result ≡ or_no_room (start_refusal 64 setup flash meta) }
 {
-    refusal_number(of_lengths(setup.capacity, flash, meta, 0, false))
+    match of_lengths(setup.capacity, flash, meta, 0, false) {
+        Ok(()) => 0,
+        Err(refusal) => refusal_number(refusal),
+    }
 }
 
 // A start's answer has no reply.
-fn lay_start(a: &mut [u8], refusal: Refusal, mode: RunMode) -> u8
+fn lay_start(a: &mut [u8], number: u8, mode: RunMode) -> u8
     requires { answer_size ≤ length a.old }
-    ensures { (result ≡ refusal_number refusal) ×
-        (a.new ≡ over (answer_bytes (start_told (refusal_number refusal) (mode_number mode)) 0) a.old) }
+    ensures { (result ≡ number) ×
+        (a.new ≡ over (answer_bytes (start_told number (mode_number mode)) 0) a.old) }
 {
     let said = Said {
-        number: refusal_number(refusal),
+        number: number,
         mode: mode_number(mode),
         len: 0,
         wait: 0,
@@ -93,14 +96,13 @@ fn started(
         start_called (started_of 52 64 setup (asked mode) flash.now meta.old) state.old answer.old }
 {
     let s = start(setup, mode_of(mode), flash, meta);
-    let refusal = s.refusal;
     let decision = s.mode;
-    if refusal.is_none() {
+    let Some(refusal) = s.refusal else {
         let new = s.state;
         lay_new(state, new.numbers.closed);
-        return lay_start(answer, refusal, decision);
-    }
-    lay_start(answer, refusal, decision)
+        return lay_start(answer, 0, decision);
+    };
+    lay_start(answer, refusal_number(refusal), decision)
 }
 
 // A start, where the buffer is as long as a state; the setup's numbers are tried before that.

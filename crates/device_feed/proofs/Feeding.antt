@@ -6,7 +6,6 @@ use mathlib.Core.List.{List, ◌++◌}
 use lib.ListN.{length}
 use lib.Dec.{eqb, ltb}
 use native.Mathlib.Omega.{arith}
-use borrow.Author.Tests.{eqb-true}
 use Rattle.laws.specs.Pick.{pick}
 use Rattle.laws.proofs.Bools.{and_both}
 use Rattle.wire_frames.specs.Reading.{read_frame, Outcome, Begun, Ended}
@@ -14,7 +13,9 @@ use Rattle.wire_frames.specs.Stored.{begun, ready, Said, quiet, ended, no_beginn
 use Rattle.device_state.specs.declared.Setup.{Setup}
 use Rattle.device_state.specs.declared.Numbers.{Numbers}
 use Rattle.device_state.specs.State.{World}
-use Rattle.device_state.specs.Refusals.{set_up, well_formed, run_fits, lengths_of, refusal_of}
+use Rattle.device_state.specs.declared.refusal.Refusal.{Refusal}
+use Rattle.device_state.specs.Refusals.{set_up, well_formed, run_fits, refusal_number, lengths_of, refusal_of}
+use Rattle.device_state.proofs.Told.{refusal_some}
 use Rattle.device_dispatcher.specs.Dispatch.{Ending, dispatch_of}
 use Rattle.device_feed.specs.Feed.{Called, holding, quiet_by, ended_by, after_said, after_read, taken_of, refused_by, fed_of, refusal_for}
 use Rattle.device_feed.specs.Inner.{going, kind_of}
@@ -82,20 +83,21 @@ lengths_open cap capacity flash meta room closed e =
     let four = passed_not (eqb meta 12) (pick (ltb room (12 + cap)) 14 last) 12 three.1 in
     (passed closed 0 14 (passed (ltb room (12 + cap)) last 13 four.1).1).0
 
-pub allowed : (cap page : ℕ) (s : Setup) (f : List ℕ) (n : Numbers) (flash meta room : ℕ) (x : ℕ) →
-    x ≡ refusal_of cap page s f n flash meta room → (b : Bool) → b ≡ eqb x 0 → b ≡ true → Allowed cap f n
+pub allowed : (cap page : ℕ) (s : Setup) (f : List ℕ) (n : Numbers) (flash meta room : ℕ) →
+    0 ≡ refusal_of cap page s f n flash meta room → Allowed cap f n
 unfolding refusal_of
-allowed cap page s f n flash meta room x e b w t =
+allowed cap page s f n flash meta room e =
     let rest = lengths_of cap s.capacity flash meta room n.closed in
-    let one = passed_not (set_up page s) (pick (not (well_formed cap page s f n)) 11 rest) 9 (sym e ∙ eqb-true x 0 (sym w ∙ t)) in
+    let one = passed_not (set_up page s) (pick (not (well_formed cap page s f n)) 11 rest) 9 (sym e) in
     let two = passed_not (well_formed cap page s f n) rest 10 one.1 in
     record { well = formed_frame cap page s f n two.0; unclosed = lengths_open cap s.capacity flash meta room n.closed two.1 }
 
-module _ (cap page : ℕ) (s : Setup) (w : World) (l room : List ℕ) (x : ℕ) (e : x ≡ refusal_for cap page s w room) (b : Bool) (k : b ≡ eqb x 0) where
-  pub call_taken : b ≡ true → (y : Called) → y ≡ taken_of cap page s w l room → y ≡ fed_of cap page s w l room
+module _ (cap page : ℕ) (s : Setup) (w : World) (l room : List ℕ) where
+  pub call_taken : 0 ≡ refusal_for cap page s w room → (y : Called) → y ≡ taken_of cap page s w l room → y ≡ fed_of cap page s w l room
   unfolding fed_of
-  call_taken t y q = let z : eqb (refusal_for cap page s w room) 0 ≡ true = rw e at (sym k ∙ t) in q ∙ (simp z)
+  call_taken e y q = q ∙ simp (← e)
 
-  pub call_refused : b ≡ false → refused_by x w room ≡ fed_of cap page s w l room
+  pub call_refused : (r : Refusal) → refusal_number r ≡ refusal_for cap page s w room →
+      refused_by (refusal_number r) w room ≡ fed_of cap page s w l room
   unfolding fed_of
-  call_refused t = let z : eqb (refusal_for cap page s w room) 0 ≡ false = rw e at (sym k ∙ t) in simp (z, e)
+  call_refused r e = simp (← e, refusal_some r)

@@ -35,7 +35,6 @@ pub fn refused(refusal: Refusal) -> Answer
     ensures { told_of result ≡ mute (refusal_number refusal) }
 {
     match refusal {
-        Refusal::None => Answer::Quiet,
         Refusal::BadSetup => Answer::BadSetup,
         Refusal::BadState => Answer::BadState,
         Refusal::BadFlash => Answer::BadFlash,
@@ -108,21 +107,14 @@ pub fn feed_in(
         fed_of 52 64 setup (record { state = state.old; flash = flash.old; meta = meta.old }) bytes.now reply.old }
 {
     let n = state.numbers;
-    let refusal = refusal::refuses(
-        setup,
-        &state.frame,
-        n,
-        flash.len(),
-        meta.len(),
-        reply.len(),
-    );
-    if refusal.is_none() {
-        return pass(setup, state, bytes, flash, meta, reply);
+    let f = &state.frame;
+    if let Err(refusal) = refusal::refuses(setup, f, n, flash.len(), meta.len(), reply.len()) {
+        return Passed {
+            taken: 0,
+            answer: refused(refusal),
+        };
     }
-    Passed {
-        taken: 0,
-        answer: refused(refusal),
-    }
+    pass(setup, state, bytes, flash, meta, reply)
 }
 
 // Takes the bytes of a piece up to the end of the first frame in it, carries that frame out on the flash and the record, and writes its reply into the

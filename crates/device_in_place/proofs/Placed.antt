@@ -3,8 +3,8 @@ use Prim.Native.Nat.{ℕ, ◌≤◌}
 use mathlib.Core.Path.{◌≡◌, refl, ap, sym, ◌∙◌}
 use mathlib.Core.Bool.{Bool, true, false, not}
 use native.Mathlib.Omega.{arith}
-use borrow.Author.Tests.{le-ltb, ltb-false, eqb-true}
-use lib.Dec.{ltb, eqb}
+use borrow.Author.Tests.{le-ltb, ltb-false}
+use lib.Dec.{ltb}
 use Rattle.laws.specs.Pick.{pick}
 use mathlib.Core.List.{List, ◌++◌}
 use lib.ListN.{length, take, drop, take-append-drop}
@@ -13,7 +13,8 @@ use Rattle.wire_frames.specs.Stored.{Read}
 use Rattle.device_state.specs.declared.Setup.{Setup}
 use Rattle.device_state.specs.declared.Numbers.{Numbers}
 use Rattle.device_state.specs.State.{World, world, got_set}
-use Rattle.device_state.specs.Refusals.{set_up, refusal_of}
+use Rattle.device_state.specs.declared.refusal.Refusal.{Refusal}
+use Rattle.device_state.specs.Refusals.{set_up, refusal_number, refusal_of}
 use Rattle.device_replies.specs.Answers.{mute}
 use Rattle.device_dispatcher.specs.Dispatch.{dispatch_of}
 use Rattle.device_feed.specs.Feed.{Called, quiet_by, ended_by, refused_by, refusal_for, fed_of}
@@ -63,32 +64,35 @@ module _ (setup : Setup) (s : List ℕ) (n : Numbers) (l flash meta room : List 
     where
       go : (t : Bool) → set_up 64 setup ≡ t → on_by (rest_in 52 64 s) (fed_of 52 64 setup w l room) ≡ fed_on 52 64 setup s n l flash meta room
       go true k = simp (k, le-ltb _ _ h)
-      go false k = ap (on_by (rest_in 52 64 s)) (sym (call_refused 52 64 setup w l room 10 (ten k) false refl refl)) ∙ (simp k)
+      go false k = ap (on_by (rest_in 52 64 s)) (sym (call_refused 52 64 setup w l room Refusal.BadSetup (ten k))) ∙ (simp k)
 
   -- the call is refused as the definition says
-  module _ (x : ℕ) (e : x ≡ refusal_on 52 64 setup s n (length flash) (length meta) (length room)) (b : Bool) (k : b ≡ eqb x 0) where
+  module _ (r : Refusal) (e : refusal_number r ≡ refusal_on 52 64 setup s n (length flash) (length meta) (length room)) where
+    abbrev x : ℕ
+    x = refusal_number r
+
     first_of : (a c : Bool) (y : ℕ) → x ≡ pick (not a) 10 (pick c 11 y) → (z : Called) → (x ≡ y → refused_by x w room ≡ z) →
         refused_by x w room ≡ pick (not a) (refused_by 10 w room) (pick c (refused_by 11 w room) z)
     first_of true true y q z f = ap (λ (v : ℕ). refused_by v w room) q
     first_of true false y q z f = f q
     first_of false c y q z f = ap (λ (v : ℕ). refused_by v w room) q
 
-    pub on_refused : b ≡ false →
+    pub on_refused :
         record { told = mute x; taken = 0; numbers = n; bytes = s; flash = flash; meta = meta; room = room } ≡ fed_on 52 64 setup s n l flash meta room
     unfolding fed_on refusal_on
-    on_refused t =
+    on_refused =
         on_kept x ∙ ap (on_by (rest_in 52 64 s))
         (first_of (set_up 64 setup) (ltb (length s) 128) (refusal_for 52 64 setup w room) e (fed_of 52 64 setup w l room)
-        (λ q. call_refused 52 64 setup w l room x q b k t))
+        (call_refused 52 64 setup w l room r))
 
-    -- or it is not: then the slice is long enough, and the feed does not refuse it either
-    none_of : (a c : Bool) (y : ℕ) → x ≡ 0 → x ≡ pick (not a) 10 (pick c 11 y) → (c ≡ false) × (x ≡ y)
-    none_of true true y z q = absurd (omega arith)
-    none_of true false y z q = (refl, q)
-    none_of false c y z q = absurd (omega arith)
+  -- or it is not: then the slice is long enough, and the feed does not refuse it either
+  none_of : (a c : Bool) (y : ℕ) → 0 ≡ pick (not a) 10 (pick c 11 y) → (c ≡ false) × (0 ≡ y)
+  none_of true true y q = absurd (omega arith)
+  none_of true false y q = (refl, q)
+  none_of false c y q = absurd (omega arith)
 
-    pub on_allowed : b ≡ true → (128 ≤ length s) × (x ≡ refusal_for 52 64 setup w room)
-    unfolding refusal_on
-    on_allowed t =
-        let two = none_of (set_up 64 setup) (ltb (length s) 128) (refusal_for 52 64 setup w room) (eqb-true x 0 (sym k ∙ t)) e in
-        (ltb-false _ _ two.0, two.1)
+  pub on_allowed : 0 ≡ refusal_on 52 64 setup s n (length flash) (length meta) (length room) → (128 ≤ length s) × (0 ≡ refusal_for 52 64 setup w room)
+  unfolding refusal_on
+  on_allowed e =
+      let two = none_of (set_up 64 setup) (ltb (length s) 128) (refusal_for 52 64 setup w room) e in
+      (ltb-false _ _ two.0, two.1)

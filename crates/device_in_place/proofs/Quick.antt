@@ -171,6 +171,6 @@ module _ (setup : Setup) (s : List ℕ) (n : Numbers) (b flash meta room : ℕ) 
   byte_fed fl me ro ef em er =
       let fr : frame_in 52 s' ≡ set f got b = ap (take 64) byte_laid ∙ take-set 64 s got b byte_within in
       let pg : page_in 52 64 s' ≡ page_in 52 64 s = ap (λ (v : List ℕ). take 64 (drop 64 v)) byte_laid ∙ ap (take 64) (drop-set-lt 64 s got b byte_within) in
-      call_taken 52 64 setup (world_in 52 64 s n fl me) (b ∷ []) ro 0 (rw (ef, em, er) none) true refl refl
+      call_taken 52 64 setup (world_in 52 64 s n fl me) (b ∷ []) ro (rw (ef, em, er) none)
       (record { told = mute 0; taken = 1; left = world_in 52 64 s' (got_set (got + 1) n) fl me; room = ro })
       (rw (fr, pg) (call_quiet 52 64 setup (world_in 52 64 s n fl me) (b ∷ []) ro _ read well refl))

@@ -6,7 +6,7 @@
 ghost use Rattle.std.specs.Prelude.{◌≡◌, true, false, ◌++◌, ◌+◌, ◌≤◌, length, take, drop};
 ghost use Rattle.std.proofs.Math.Seq.{paste};
 ghost use Rattle.wire_frames.specs.Stored.{well_of, seen, read_of};
-ghost use Rattle.device_state.specs.Refusals.{well_formed, refusal_number};
+ghost use Rattle.device_state.specs.Refusals.{well_formed, refusal_told};
 ghost use Rattle.device_dispatcher.specs.Dispatch.{dispatch_of};
 ghost use Rattle.device_feed.specs.Feed.{ended_by, taken_of};
 ghost use Rattle.device_in_place.specs.On.{rest_in, world_in, on_by, fed_on};
@@ -126,28 +126,31 @@ fn pass(
 }
 
 // Whether the slice, and what stands beside it, holds a well-formed state.
+#[tactic(auto, unfolding(device_state::specs::Refusals::well_formed))]
 fn well_formed(setup: Setup, s: &[u8], n: Numbers) -> bool
     requires { 64 ≤ length s.now }
     ensures { result ≡ well_formed 52 64 setup (take 64 s.now) n }
 {
-    if refusal::run_fits(setup.capacity, n.fill, n.next) {
-        return frame::begins(&s[..FRAME], n.got, true);
-    }
-    false
+    refusal::run_fits(setup.capacity, n.fill, n.next) && frame::begins(&s[..FRAME], n.got, true)
 }
 
-// The refusal that a call gives, if any: a slice that is too short holds no state.
-fn refusal_of(setup: Setup, s: &[u8], n: Numbers, flash: usize, meta: usize, room: usize) -> Refusal
-    ensures { refusal_number result ≡ refusal_on 52 64 setup s.now n flash meta room }
+// Whether a call is refused, and how: a slice that is too short holds no state.
+#[tactic(auto, unfolding(crate::specs::Inner::refusal_on, device_state::specs::Refusals::refusal_of))]
+fn refuses(
+    setup: Setup,
+    s: &[u8],
+    n: Numbers,
+    flash: usize,
+    meta: usize,
+    room: usize,
+) -> Result<(), Refusal>
+    ensures { refusal_told result ≡ refusal_on 52 64 setup s.now n flash meta room }
 {
     if !refusal::set_up(setup) {
-        return Refusal::BadSetup;
+        return Err(Refusal::BadSetup);
     }
-    if s.len() < STATE {
-        return Refusal::BadState;
-    }
-    if !well_formed(setup, s, n) {
-        return Refusal::BadState;
+    if s.len() < STATE || !well_formed(setup, s, n) {
+        return Err(Refusal::BadState);
     }
     refusal::of_lengths(setup.capacity, flash, meta, room, n.closed)
 }
@@ -165,13 +168,13 @@ pub fn feed_on(
     ensures { called_on result n.new s.new flash.new meta.new reply.new ≡
         fed_on 52 64 setup s.old n.old bytes.now flash.old meta.old reply.old }
 {
-    let refusal = refusal_of(setup, s, *n, flash.len(), meta.len(), reply.len());
     let mut r = Passed {
         taken: 0,
-        answer: refused(refusal),
+        answer: Answer::Quiet,
     };
-    if refusal.is_none() {
-        r = pass(setup, n, s, bytes, flash, meta, reply);
+    match refuses(setup, s, *n, flash.len(), meta.len(), reply.len()) {
+        Ok(()) => r = pass(setup, n, s, bytes, flash, meta, reply),
+        Err(refusal) => r.answer = refused(refusal),
     }
     r
 }
@@ -200,6 +203,7 @@ fn lay_byte(f: &mut [u8], got: usize, device: bool, b: u8) -> bool
 }
 
 // Whether nothing but the frame can refuse a call.
+#[tactic(auto, using(device_state::proofs::Told::told_ok))]
 fn clear(
     erase: usize,
     capacity: usize,
@@ -212,13 +216,9 @@ fn clear(
 ) -> bool
     ensures { result ≡ clear_of 52 64 erase capacity id_len start_kind n flash meta room }
 {
-    if refusal::fits(erase, capacity, id_len, start_kind) {
-        if refusal::run_fits(capacity, n.fill, n.next) {
-            let refusal = refusal::of_lengths(capacity, flash, meta, room, n.closed);
-            return refusal.is_none();
-        }
-    }
-    false
+    refusal::fits(erase, capacity, id_len, start_kind)
+        && refusal::run_fits(capacity, n.fill, n.next)
+        && refusal::of_lengths(capacity, flash, meta, room, n.closed).is_ok()
 }
 
 // A call on one byte where that byte is only stored, and whether it is: else nothing is done, and `feed_on` is to be called. Of the numbers only `got`

@@ -1,5 +1,5 @@
 -- A start (01, Record, flash, start; What a call says).
-use Rattle.std.specs.Prelude.{ℕ, Bool, true, false, not, List, length, replicate, ◌==◌, nat_eq, if◌then◌else◌}
+use Rattle.std.specs.Prelude.{ℕ, Bool, true, false, not, List, length, replicate, ◌==◌, nat_eq, if◌then◌else◌, unwrap_or, option_map}
 use Rattle.wire_numbers.specs.Names.{mode_number}
 use Rattle.store_flash.specs.Flash.{none_pending}
 use Rattle.wire_frames.specs.Stored.{new_frame}
@@ -32,7 +32,7 @@ abbrev pub left : ℕ → ℕ → ℕ → ℕ → Bool → List ℕ → Booted
 left cap page answer mode closed meta = record { answer = answer; mode = mode; state = new_state cap page closed; meta = meta }
 
 abbrev pub started_to : Started → List ℕ → Booted
-started_to r meta = record { answer = refusal_number r.refusal; mode = mode_number r.mode; state = r.state; meta = meta }
+started_to r meta = record { answer = unwrap_or (option_map refusal_number r.refusal) 0; mode = mode_number r.mode; state = r.state; meta = meta }
 
 -- the decision, with a state that is open on Service and closed on a hand-off
 abbrev pub decided_to : ℕ → ℕ → Decision → Booted

@@ -2,24 +2,24 @@
 
 #![tactic(auto)]
 
-ghost use Rattle.std.specs.Prelude.{◌≡◌, true, ◌==◌};
+ghost use Rattle.std.specs.Prelude.{◌≡◌, true, ◌==◌, Some};
 ghost use Rattle.wire_numbers.specs.Names.{mode_number};
 ghost use Rattle.device_boot.specs.Start.{start_of};
-ghost use Rattle.device_state.specs.Refusals.{refusal_number};
+ghost use Rattle.device_state.specs.Refusals.{refusal_told};
 ghost use Rattle.device_start.specs.Starts.{new_state, start_refusal, started_to, decided_to, started_of};
 
 use device_boot::boot_core;
 use device_state::refusal::Refusal;
 use device_state::{CAREFUL, Numbers, Setup, State, refusal};
 use store_flash::storage::{NONE_PENDING, PAGE_SIZE};
-use wire_frames::frame::Frame;
+use wire_frames::frame::{FRAME, Frame};
 use wire_numbers::RunMode;
 
 // What a start gives: where it refuses, Service and a closed state.
 #[derive(Clone, Copy)]
 pub struct Started {
     pub state: State,
-    pub refusal: Refusal,
+    pub refusal: Option<Refusal>,
     pub mode: RunMode,
 }
 
@@ -48,28 +48,23 @@ fn hands_off(mode: RunMode) -> bool
     mode == RunMode::HandOff
 }
 
-fn refuses(setup: Setup, flash: usize, meta: usize) -> Refusal
-    ensures { refusal_number result ≡ start_refusal 64 setup flash meta }
+// As a call of the feed that has room for a reply and is open.
+#[tactic(auto, unfolding(crate::specs::Starts::start_refusal, device_state::specs::Refusals::lengths_of))]
+fn refuses(setup: Setup, flash: usize, meta: usize) -> Result<(), Refusal>
+    ensures { refusal_told result ≡ start_refusal 64 setup flash meta }
 {
-    let capacity = setup.capacity;
     if !refusal::set_up(setup) {
-        return Refusal::BadSetup;
+        return Err(Refusal::BadSetup);
     }
-    if flash != capacity {
-        return Refusal::BadFlash;
-    }
-    if meta != 12 {
-        return Refusal::BadRecord;
-    }
-    Refusal::None
+    refusal::of_lengths(setup.capacity, flash, meta, FRAME, false)
 }
 
 fn refused(refusal: Refusal) -> Started
-    ensures { (result.state ≡ new_state 52 64 true) × (refusal_number result.refusal ≡ refusal_number refusal) × (mode_number result.mode ≡ 1) }
+    ensures { (result.state ≡ new_state 52 64 true) × (result.refusal ≡ Some refusal) × (mode_number result.mode ≡ 1) }
 {
     Started {
         state: new_state(true),
-        refusal: refusal,
+        refusal: Some(refusal),
         mode: RunMode::Service,
     }
 }
@@ -81,19 +76,19 @@ fn begun(careful: bool, capacity: usize, mode: RunMode, flash: &[u8], meta: &mut
     let decision = boot_core::check_boot_state(careful, capacity, mode, flash, meta);
     Started {
         state: new_state(hands_off(decision)),
-        refusal: Refusal::None,
+        refusal: None,
         mode: decision,
     }
 }
 
 // A restart, or the first start: with Service asked for, or to the app.
+#[tactic(auto, using(device_state::proofs::Told::refusal_some), unfolding(crate::specs::Starts::started_of))]
 pub fn start(setup: Setup, mode: RunMode, flash: &[u8], meta: &mut [u8]) -> Started
     ensures { started_to result meta.new ≡ started_of 52 64 setup (mode_number mode) flash.now meta.old }
 {
-    let refusal = refuses(setup, flash.len(), meta.len());
-    if refusal.is_none() {
-        let careful = setup.start_kind == CAREFUL;
-        return begun(careful, setup.capacity, mode, flash, meta);
+    if let Err(refusal) = refuses(setup, flash.len(), meta.len()) {
+        return refused(refusal);
     }
-    refused(refusal)
+    let careful = setup.start_kind == CAREFUL;
+    begun(careful, setup.capacity, mode, flash, meta)
 }

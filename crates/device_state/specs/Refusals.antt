@@ -1,5 +1,5 @@
 -- When a call refuses (01, What a call says). `cap` is the payload capacity, `page` the page size.
-use Rattle.std.specs.Prelude.{ℕ, ◌+◌, ◌%◌, Bool, true, not, ◌&&◌, List, leb, ltb, eqb, if◌then◌else◌}
+use Rattle.std.specs.Prelude.{ℕ, ◌+◌, ◌%◌, Bool, true, not, ◌&&◌, List, leb, ltb, eqb, if◌then◌else◌, ⊤, Result, Ok, Err}
 use Rattle.store_flash.specs.Flash.{none_pending}
 use Rattle.wire_frames.specs.Stored.{well_of}
 use Rattle.device_state.specs.declared.Setup.{Setup}
@@ -31,15 +31,19 @@ run_fits page capacity fill next =
 unfoldable pub well_formed : ℕ → ℕ → Setup → List ℕ → Numbers → Bool
 well_formed cap page s f n = run_fits page s.capacity n.fill n.next && well_of cap true f n.got
 
--- the numbers of the refusals; 0 where there is none
+-- the numbers of the refusals
 abbrev pub refusal_number : Refusal → ℕ
-refusal_number Refusal.None = 0
 refusal_number Refusal.BadSetup = 10
 refusal_number Refusal.BadState = 11
 refusal_number Refusal.BadFlash = 12
 refusal_number Refusal.BadRecord = 13
 refusal_number Refusal.NoRoom = 14
 refusal_number Refusal.Closed = 15
+
+-- what a test answers: the number of the refusal; 0 where there is none
+abbrev pub refusal_told : Result ⊤ Refusal → ℕ
+refusal_told (Ok done) = 0
+refusal_told (Err refusal) = refusal_number refusal
 
 -- of the lengths that are lent, and of a state that is closed
 unfoldable pub lengths_of : ℕ → ℕ → ℕ → ℕ → ℕ → Bool → ℕ

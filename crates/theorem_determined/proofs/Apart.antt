@@ -4,6 +4,8 @@ use Prim.Native.Nat.{ℕ}
 use mathlib.Core.Path.{◌≡◌, refl, ap, ap₂, sym, ◌∙◌}
 use native.Mathlib.Omega.{arith}
 use lib.Dec.{eqb}
+use Rattle.std.specs.Prelude.{⊤, Option, Some, None, unwrap_or, Result, Ok, Err}
+use Rattle.std.specs.Option.{option_map}
 use Rattle.laws.specs.Pick.{pick}
 use Rattle.laws.proofs.Inverse.{apart}
 use Rattle.wire_numbers.proofs.Apart.{mode_from, mode_back}
@@ -19,7 +21,8 @@ use Rattle.app_record.specs.declared.PositionRead.{PositionRead}
 use Rattle.app_record.specs.Changes.{stored_number}
 use Rattle.app_record.specs.Reads.{rate_told, position_told}
 use Rattle.device_state.specs.declared.refusal.Refusal.{Refusal}
-use Rattle.device_state.specs.Refusals.{refusal_number}
+use Rattle.device_state.specs.Refusals.{refusal_number, refusal_told}
+use Rattle.device_state.proofs.Told.{refusal_some}
 use Rattle.device_early.specs.declared.Outlook.{Outlook}
 use Rattle.device_early.specs.Early.{outlook_number}
 use Rattle.device_mend.specs.declared.Mended.{Mended}
@@ -36,11 +39,9 @@ abbrev refusal_from : ℕ → Refusal
 refusal_from n =
     pick (eqb n 10) Refusal.BadSetup
     (pick (eqb n 11) Refusal.BadState
-    (pick (eqb n 12) Refusal.BadFlash
-    (pick (eqb n 13) Refusal.BadRecord (pick (eqb n 14) Refusal.NoRoom (pick (eqb n 15) Refusal.Closed Refusal.None)))))
+    (pick (eqb n 12) Refusal.BadFlash (pick (eqb n 13) Refusal.BadRecord (pick (eqb n 14) Refusal.NoRoom Refusal.Closed))))
 
 refusal_back : (r : Refusal) → refusal_from (refusal_number r) ≡ r
-refusal_back Refusal.None = refl
 refusal_back Refusal.BadSetup = refl
 refusal_back Refusal.BadState = refl
 refusal_back Refusal.BadFlash = refl
@@ -50,6 +51,24 @@ refusal_back Refusal.Closed = refl
 
 pub refusal_apart : (a b : Refusal) → refusal_number a ≡ refusal_number b → a ≡ b
 refusal_apart = apart refusal_number refusal_from refusal_back
+
+-- a refusal or none, which is 0
+abbrev refused_number : Option Refusal → ℕ
+refused_number r = unwrap_or (option_map refusal_number r) 0
+
+refused_back : (r : Option Refusal) → pick (eqb (refused_number r) 0) None (Some (refusal_from (refused_number r))) ≡ r
+refused_back None = refl
+refused_back (Some r) = rw (refusal_some r) (ap Some (refusal_back r))
+
+pub refused_apart : (a b : Option Refusal) → refused_number a ≡ refused_number b → a ≡ b
+refused_apart = apart refused_number (λ n. pick (eqb n 0) None (Some (refusal_from n))) refused_back
+
+outcome_back : (t : Result ⊤ Refusal) → pick (eqb (refusal_told t) 0) (Ok tt) (Err (refusal_from (refusal_told t))) ≡ t
+outcome_back (Ok done) = refl
+outcome_back (Err r) = rw (refusal_some r) (ap Err (refusal_back r))
+
+pub outcome_apart : (a b : Result ⊤ Refusal) → refusal_told a ≡ refusal_told b → a ≡ b
+outcome_apart = apart refusal_told (λ n. pick (eqb n 0) (Ok tt) (Err (refusal_from n))) outcome_back
 
 abbrev why_from : ℕ → Silence
 why_from n =

@@ -1,6 +1,6 @@
 -- The running app's functions and calls.
 use Rattle.theorem_determined.specs.Determined.{Determined}
-use Rattle.theorem_determined.proofs.Apart.{plain, refusal_apart, answer_apart, stored_apart, rate_read_apart, position_read_apart}
+use Rattle.theorem_determined.proofs.Apart.{plain, outcome_apart, answer_apart, stored_apart, rate_read_apart, position_read_apart}
 use Rattle.app_record.proofs as app_record
 use Rattle.app_record.specs.contracts as app_record_contracts
 use Rattle.app_state.proofs as app_state
@@ -32,7 +32,7 @@ pub app_new : Determined app_state_contracts.app_new.ended app_state.app_new.Rea
 app_new κs a o o' p q i = (plain p q i, o.1)
 
 pub app_refuses : Determined app_state_contracts.app_refuses.ended app_state.app_refuses.Reads.Post
-app_refuses κs a o o' p q i = (refusal_apart o.0 o'.0 (plain p q) i, o.1)
+app_refuses κs a o o' p q i = (outcome_apart o.0 o'.0 (plain p q) i, o.1)
 
 pub app_dispatch : Determined app_dispatcher_contracts.app_dispatch.ended app_dispatcher.app_dispatch.Reads.Post
 app_dispatch κs a o o' p q i =

@@ -1,6 +1,6 @@
 -- The device's functions and calls.
 use Rattle.theorem_determined.specs.Determined.{Determined}
-use Rattle.theorem_determined.proofs.Apart.{plain, refusal_apart, answer_apart, outlook_apart, mended_apart}
+use Rattle.theorem_determined.proofs.Apart.{plain, refused_apart, outcome_apart, answer_apart, outlook_apart, mended_apart}
 use Rattle.wire_numbers.proofs.Apart.{status_apart, mode_apart}
 use Rattle.wire_frames.proofs.Apart.{kind_apart}
 use Rattle.device_state.proofs as device_state
@@ -29,9 +29,6 @@ use Rattle.device_in_place.specs.contracts as device_in_place_contracts
 pub refusal_number : Determined device_state_contracts.refusal.refusal_number.ended device_state.refusal.refusal_number.Reads.Post
 refusal_number κs a o o' p q i = (plain p q i, o.1)
 
-pub is_none : Determined device_state_contracts.refusal.Refusal.is_none.ended device_state.refusal.Refusal.is_none.Reads.Post
-is_none κs a o o' p q i = (plain p q i, o.1)
-
 pub fits : Determined device_state_contracts.refusal.fits.ended device_state.refusal.fits.Reads.Post
 fits κs a o o' p q i = (plain p q i, o.1)
 
@@ -45,10 +42,10 @@ pub well_formed : Determined device_state_contracts.refusal.well_formed.ended de
 well_formed κs a o o' p q i = (plain p q i, o.1)
 
 pub of_lengths : Determined device_state_contracts.refusal.of_lengths.ended device_state.refusal.of_lengths.Reads.Post
-of_lengths κs a o o' p q i = (refusal_apart o.0 o'.0 (plain p q) i, o.1)
+of_lengths κs a o o' p q i = (outcome_apart o.0 o'.0 (plain p q) i, o.1)
 
 pub refuses : Determined device_state_contracts.refusal.refuses.ended device_state.refusal.refuses.Reads.Post
-refuses κs a o o' p q i = (refusal_apart o.0 o'.0 (plain p q) i, o.1)
+refuses κs a o o' p q i = (outcome_apart o.0 o'.0 (plain p q) i, o.1)
 
 pub check_boot_state : Determined device_boot_contracts.boot_core.check_boot_state.ended device_boot.boot_core.check_boot_state.Reads.Post
 check_boot_state κs a o o' p q i =
@@ -63,7 +60,7 @@ start κs a o o' p q i =
     let e = plain p q in (
       record {
         state = (e i).state;
-        refusal = refusal_apart o.0.refusal o'.0.refusal (λ j. (e j).answer) i;
+        refusal = refused_apart o.0.refusal o'.0.refusal (λ j. (e j).answer) i;
         mode = mode_apart o.0.mode o'.0.mode (λ j. (e j).mode) i;
       },
       (tt, (tt, (tt, ((e i).meta, tt)))),

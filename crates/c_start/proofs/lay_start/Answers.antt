@@ -6,6 +6,5 @@ use Rattle.c_start.proofs.lay_start.Goals as goal
 pub returns : goal.returns
 returns c =
     let e = c.lay_answer.ensures in
-    let k = c.refusal_number.ensures in
-    let t = start_told c.refusal_number.result c.mode_number.result in
-    (e.0 ∙ k, rw (← k, ← c.mode_number.ensures) (e.1 ∙ sym (answer_laid t 0 c.args.a.now c.requires)))
+    let t = start_told c.args.number c.mode_number.result in
+    (e.0, rw (← c.mode_number.ensures) (e.1 ∙ sym (answer_laid t 0 c.args.a.now c.requires)))

@@ -24,7 +24,3 @@ returns-then-run_fits c =
     let a = c.args in
     simp (sym c.run_fits.ensures ∙ c.if-run_fits.true)
     (sym (tested a.s.now a.n.got c.requires _ c.begins.ensures))
-
-pub returns : goal.returns
-unfolding well_formed
-returns c = simp (sym c.run_fits.ensures ∙ c.if-run_fits.false)
