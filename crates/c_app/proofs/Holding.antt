@@ -1,11 +1,11 @@
 -- Bytes that hold an app's state.
 use Prim.Native.Nat.{ℕ, ◌<◌}
-use mathlib.Core.Path.{◌≡◌, sym, ap, ◌∙◌}
-use mathlib.Core.Bool.{Bool, true, ◌&&◌}
+use mathlib.Core.Path.{◌≡◌}
+use mathlib.Core.Bool.{true, ◌&&◌}
 use mathlib.Core.List.{List}
 use lib.ListN.{length, get_or}
 use lib.Dec.{eqb, ltb}
-use borrow.Author.Tests.{eqb-true, ltb-true, eq-eqb, lt-ltb}
+use borrow.Author.Tests.{eqb-true, ltb-true}
 use Rattle.laws.proofs.Bools.{and_both}
 use Rattle.c_app.specs.App.{holds_app}
 
@@ -19,10 +19,3 @@ holds_flags l e =
     let both : ltb (get_or l 65 0) 2 && ltb (get_or l 66 0) 2 ≡ true = (and_both (eqb (length l) 67) (ltb (get_or l 65 0) 2 && ltb (get_or l 66 0) 2) e).1 in
     let two = and_both (ltb (get_or l 65 0) 2) (ltb (get_or l 66 0) 2) both in
     (ltb-true (get_or l 65 0) 2 two.0, ltb-true (get_or l 66 0) 2 two.1)
-
--- all the tests, the last of which says it
-pub holds_last : (l : List ℕ) → length l ≡ 67 → get_or l 65 0 < 2 → ltb (get_or l 66 0) 2 ≡ holds_app 52 l
-unfolding holds_app
-holds_last l e h =
-    let b : Bool = ltb (get_or l 66 0) 2 in
-    sym (ap (λ (t : Bool). t && (ltb (get_or l 65 0) 2 && b)) (eq-eqb (length l) 67 e) ∙ ap (λ (t : Bool). t && b) (lt-ltb (get_or l 65 0) 2 h))

@@ -17,6 +17,7 @@ use app_client::app_feed_in;
 use app_record::{PositionRead, RateRead, baud, confirm, position, set_baud, stored_number};
 use app_state::{AppNumbers, AppSetup, AppState, app_new, app_refuses};
 use c_layout::{ANSWER_SIZE, flag, lay_answer, refuse};
+use device_in_place::taken_out;
 use device_replies::numbers_of;
 use device_state::PRESENT;
 use device_state::refusal::{Refusal, fits, refusal_number};
@@ -43,23 +44,11 @@ pub fn holds_app_setup(setup: &[u8]) -> bool
 }
 
 // Whether these bytes are a state's: as many, and flags that are 0 or 1.
+#[tactic(auto, unfolding(crate::specs::App::holds_app))]
 fn holds_app(state: &[u8]) -> bool
     ensures { result ≡ holds_app 52 state.now }
 {
-    if state.len() != APP_STATE_SIZE {
-        return false;
-    }
-    if 2 <= state[SELECTED] {
-        return false;
-    }
-    state[CLOSED] < 2
-}
-
-// A byte as a count.
-fn wide(b: u8) -> usize
-    ensures { result ≡ b }
-{
-    b as usize
+    state.len() == APP_STATE_SIZE && state[SELECTED] < 2 && state[CLOSED] < 2
 }
 
 fn numbers_from(s: &[u8]) -> AppNumbers
@@ -67,23 +56,10 @@ fn numbers_from(s: &[u8]) -> AppNumbers
     ensures { result ≡ app_numbers_from 52 s.now }
 {
     AppNumbers {
-        got: wide(s[GOT]),
+        got: usize::from(s[GOT]),
         selected: s[SELECTED] == 1,
         closed: s[CLOSED] == 1,
     }
-}
-
-fn frame_from(s: &[u8]) -> FrameBytes
-    requires { length s.now ≡ app_state_size 52 }
-    ensures { result ≡ part 0 64 s.now }
-{
-    let mut f = [0u8; FRAME];
-    let mut i: usize = 0;
-    while i < FRAME {
-        f[i] = s[i];
-        i += 1;
-    }
-    f
 }
 
 // The state that these bytes stand for.
@@ -92,7 +68,7 @@ fn app_from(s: &[u8]) -> AppState
     ensures { result ≡ app_from 52 s.now }
 {
     AppState {
-        frame: frame_from(s),
+        frame: taken_out(s, 0),
         numbers: numbers_from(s),
     }
 }

@@ -1,11 +1,11 @@
 -- Bytes that hold a state.
 use Prim.Native.Nat.{ℕ, ◌<◌}
-use mathlib.Core.Path.{◌≡◌, sym, ap, ◌∙◌}
-use mathlib.Core.Bool.{Bool, true, ◌&&◌}
+use mathlib.Core.Path.{◌≡◌}
+use mathlib.Core.Bool.{true, ◌&&◌}
 use mathlib.Core.List.{List}
 use lib.ListN.{length, get_or}
 use lib.Dec.{eqb, ltb}
-use borrow.Author.Tests.{eqb-true, ltb-true, eq-eqb, lt-ltb}
+use borrow.Author.Tests.{eqb-true, ltb-true}
 use Rattle.laws.proofs.Bools.{and_both}
 use Rattle.c_layout.specs.Layout.{holds_state}
 
@@ -20,10 +20,3 @@ holds_flags l e =
     (and_both (eqb (length l) 136) (ltb (get_or l 134 0) 2 && ltb (get_or l 135 0) 2) e).1 in
     let two = and_both (ltb (get_or l 134 0) 2) (ltb (get_or l 135 0) 2) both in
     (ltb-true (get_or l 134 0) 2 two.0, ltb-true (get_or l 135 0) 2 two.1)
-
--- all the tests, the last of which says it
-pub holds_last : (l : List ℕ) → length l ≡ 136 → get_or l 134 0 < 2 → ltb (get_or l 135 0) 2 ≡ holds_state 52 64 l
-unfolding holds_state
-holds_last l e h =
-    let b : Bool = ltb (get_or l 135 0) 2 in
-    sym (ap (λ (t : Bool). t && (ltb (get_or l 134 0) 2 && b)) (eq-eqb (length l) 136 e) ∙ ap (λ (t : Bool). t && b) (lt-ltb (get_or l 134 0) 2 h))

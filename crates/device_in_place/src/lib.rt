@@ -4,7 +4,6 @@
 #![tactic(auto)]
 
 ghost use Rattle.std.specs.Prelude.{◌≡◌, true, false, ◌++◌, ◌+◌, ◌≤◌, length, take, drop};
-ghost use Rattle.std.proofs.Math.Seq.{paste};
 ghost use Rattle.wire_frames.specs.Stored.{well_of, seen, read_of};
 ghost use Rattle.device_state.specs.Refusals.{well_formed, refusal_told};
 ghost use Rattle.device_dispatcher.specs.Dispatch.{dispatch_of};
@@ -25,28 +24,13 @@ use wire_numbers::le;
 // Both arrays.
 const STATE: usize = FRAME + PAGE_SIZE;
 
-// The 64 bytes from a place on.
-fn fetch(s: &[u8], at: usize, a: &mut FrameBytes)
-    requires { (at + 64 ≤ length s.now) × (length a.old ≡ 64) }
-    ensures { a.new ≡ take 64 (drop at s.now) }
+// So many bytes from a place on.
+pub fn taken_out<const N: usize>(s: &[u8], at: usize) -> [u8; N]
+    requires { at + N ≤ length s.now }
+    ensures { result ≡ take N (drop at s.now) }
 {
-    a.copy_from_slice(&s[at..at + FRAME]);
-}
-
-// These bytes from a place on.
-fn lay(s: &mut [u8], at: usize, a: &[u8])
-    requires { (at + 64 ≤ length s.old) × (length a.now ≡ 64) }
-    ensures { s.new ≡ paste s.old at a.now 64 }
-{
-    s[at..at + FRAME].copy_from_slice(a);
-}
-
-fn taken_out(s: &[u8], at: usize) -> FrameBytes
-    requires { at + 64 ≤ length s.now }
-    ensures { result ≡ take 64 (drop at s.now) }
-{
-    let mut a = [0u8; FRAME];
-    fetch(s, at, &mut a);
+    let mut a = [0u8; N];
+    a.copy_from_slice(&s[at..at + N]);
     a
 }
 
@@ -55,8 +39,8 @@ fn put_back(s: &mut [u8], f: &FrameBytes, page: &Page)
     requires { 128 ≤ length s.old }
     ensures { s.new ≡ f.now ++ (page.now ++ rest_in 52 64 s.old) }
 {
-    lay(s, 0, f);
-    lay(s, FRAME, page);
+    s[..FRAME].copy_from_slice(f);
+    s[FRAME..STATE].copy_from_slice(page);
 }
 
 // A frame that has ended in this way after so many bytes, carried out.

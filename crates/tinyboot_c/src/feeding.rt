@@ -5,7 +5,7 @@ ghost use Rattle.c_layout.specs.Layout.{answer_size, setup_from, holds_state};
 ghost use Rattle.tinyboot_c.specs.Calls.{world_from, after_feed};
 ghost use Rattle.tinyboot_c.specs.Inner.{ByteFed, stateless, laid};
 
-use crate::layout::{four, setup_from, wide};
+use crate::layout::{four, setup_from};
 use crate::state::{lay_numbers, numbers_from};
 use c_layout::{ANSWER_SIZE, GOT, lay_answer};
 use device_in_place::{byte_on, feed_on};
@@ -28,10 +28,7 @@ pub(crate) fn stateless(setup: &[u8]) -> u8
 pub(crate) fn room_for(reply: usize, answer: usize) -> usize
     ensures { result ≡ (if ltb answer answer_size then 0 else reply) }
 {
-    if answer < ANSWER_SIZE {
-        return 0;
-    }
-    reply
+    if answer < ANSWER_SIZE { 0 } else { reply }
 }
 
 // A piece of one byte that is only stored, and whether it is: with most bytes there is nothing else to do.
@@ -53,7 +50,7 @@ fn fed_byte(
     let n = numbers_from(state);
     let erase = four(setup, 0) as usize;
     let capacity = four(setup, 4) as usize;
-    let id_len = wide(setup[8]);
+    let id_len = usize::from(setup[8]);
     let start_kind = setup[31];
     if byte_on(
         erase, capacity, id_len, start_kind, n, state, bytes[0], flash, meta, room,

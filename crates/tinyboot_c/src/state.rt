@@ -3,7 +3,7 @@ ghost use Rattle.std.specs.Prelude.{◌≡◌, length};
 ghost use Rattle.std.proofs.Math.Seq.{paste};
 ghost use Rattle.c_layout.specs.Layout.{number_bytes, numbers_from};
 
-use crate::layout::{four, lay, wide};
+use crate::layout::four;
 use c_layout::{CLOSED, FILL, GOT, NEXT, SELECTED, number_bytes};
 use device_state::Numbers;
 
@@ -12,8 +12,8 @@ pub(crate) fn numbers_from(s: &[u8]) -> Numbers
     ensures { result ≡ numbers_from 52 64 s.now }
 {
     Numbers {
-        got: wide(s[GOT]),
-        fill: wide(s[FILL]),
+        got: usize::from(s[GOT]),
+        fill: usize::from(s[FILL]),
         next: four(s, NEXT),
         selected: s[SELECTED] == 1,
         closed: s[CLOSED] == 1,
@@ -25,6 +25,5 @@ pub(crate) fn lay_numbers(s: &mut [u8], n: Numbers)
     requires { length s.old ≡ 136 }
     ensures { s.new ≡ paste s.old 128 (number_bytes n) 8 }
 {
-    let bytes = number_bytes(n);
-    lay(s, NEXT, &bytes);
+    s[NEXT..].copy_from_slice(&number_bytes(n));
 }

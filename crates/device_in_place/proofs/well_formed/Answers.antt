@@ -15,9 +15,6 @@ tested : (s : List ℕ) (g : ℕ) → 64 ≤ length s → (b : Bool) → b ≡ (
     well_of 52 true (take 64 s) g ≡ b
 tested s g h b e = sym (simp (eq-eqb _ _ (length-take-le 64 s h)) at e)
 
-pub slice_bounds-begins-end : goal.slice_bounds-begins-end
-slice_bounds-begins-end c = sym (length-take-le 64 c.args.s.now c.requires)
-
 pub returns-then-run_fits : goal.returns-then-run_fits
 unfolding well_formed
 returns-then-run_fits c =

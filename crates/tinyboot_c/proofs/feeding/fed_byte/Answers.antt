@@ -16,7 +16,7 @@ on_byte : (c : After-byte_on) → (t : Bool) → c.byte_on.result ≡ t →
 on_byte c =
     let a = c.args in
     byte_known a.setup.now a.state.now (get_or a.bytes.now 0 0) a.flash a.meta a.room c.byte_on.result c.byte_on.new.s _ _ _ _ _
-    c.byte_on.ensures c.four-erase.ensures c.four-capacity.ensures c.wide-id_len.ensures refl c.numbers_from-n.ensures
+    c.byte_on.ensures c.four-erase.ensures c.four-capacity.ensures c.from-id_len.ensures refl c.numbers_from-n.ensures
 
 -- a byte that is stored has a place in the frame
 got_within : (c : After-byte_on) → c.byte_on.result ≡ true → c.numbers_from-n.result.got < 64

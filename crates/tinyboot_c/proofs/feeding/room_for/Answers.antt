@@ -9,7 +9,7 @@ returns-then-answer-lt-ANSWER_SIZE c =
     let a = c.args in
     ap (λ (t : Bool). pick t 0 a.reply) (sym (lt-ltb a.answer 16 c.if-answer-lt-ANSWER_SIZE.true))
 
-pub returns : goal.returns
-returns c =
+pub returns-else-answer-lt-ANSWER_SIZE : goal.returns-else-answer-lt-ANSWER_SIZE
+returns-else-answer-lt-ANSWER_SIZE c =
     let a = c.args in
     ap (λ (t : Bool). pick t 0 a.reply) (sym (le-ltb a.answer 16 c.if-answer-lt-ANSWER_SIZE.false))

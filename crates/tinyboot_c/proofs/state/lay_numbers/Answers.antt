@@ -1,13 +1,8 @@
-use Prim.Native.Nat.{ℕ}
-use mathlib.Core.Path.{ap, ◌∙◌}
-use mathlib.Core.List.{List}
-use lib.ListN.{length}
-use lib.Seq.{paste}
+use Rattle.std.proofs.Common.{refl, ◌∙◌, arith}
+use Rattle.std.proofs.lemmas.Slice.{put_mid-paste}
+use Rattle.c_layout.specs.Layout.{number_bytes}
 use Rattle.tinyboot_c.proofs.state.lay_numbers.Goals as goal
 
 pub returns : goal.returns
 returns c =
-    let a = c.args in
-    let n = c.number_bytes-bytes.ensures in
-    let e = c.lay.ensures in
-    e ∙ ap (λ (v : List ℕ). paste a.s.now 128 v (length v)) n
+    put_mid-paste 128 _ _ _ (number_bytes c.args.n) 8 (c.copy_from_slice.ensures.after ∙ c.number_bytes.ensures) (omega (arith, c.requires)) refl
