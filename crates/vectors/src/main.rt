@@ -25,87 +25,75 @@ const RATES: [u32; 14] = [
 ];
 
 impl Tally {
-    fn counted(self, same: bool) -> Tally {
-        let ran = self.ran.wrapping_add(1);
-        if same {
-            Tally {
-                ran,
-                differ: self.differ,
-            }
-        } else {
-            Tally {
-                ran,
-                differ: self.differ.wrapping_add(1),
-            }
-        }
+    fn count(&mut self, same: bool) {
+        self.ran = self.ran.wrapping_add(1);
+        self.differ = self.differ.wrapping_add(u64::from(!same));
     }
 
     // A vector whose source has it in hexadecimal, at so many digits.
     fn hex(
-        self,
+        &mut self,
         out: &mut impl Write,
         name: &str,
         got: u64,
         expected: u64,
         width: usize,
-    ) -> io::Result<Tally> {
+    ) -> io::Result<()> {
         let same = got == expected;
+        self.count(same);
         if same {
-            writeln!(out, "ok {name}")?;
-        } else {
-            writeln!(
-                out,
-                "DIFFERS {name}: got 0x{got:0width$x}, expected 0x{expected:0width$x}"
-            )?;
+            return writeln!(out, "ok {name}");
         }
-        Ok(self.counted(same))
+        writeln!(
+            out,
+            "DIFFERS {name}: got 0x{got:0width$x}, expected 0x{expected:0width$x}"
+        )
     }
 
     // A vector of decimal numbers; its name ends in a number.
     fn decimal(
-        self,
+        &mut self,
         out: &mut impl Write,
         name: &str,
         n: u64,
         got: u64,
         expected: u64,
-    ) -> io::Result<Tally> {
+    ) -> io::Result<()> {
         let same = got == expected;
+        self.count(same);
         if same {
-            writeln!(out, "ok {name}{n}")?;
-        } else {
-            writeln!(out, "DIFFERS {name}{n}: got {got}, expected {expected}")?;
+            return writeln!(out, "ok {name}{n}");
         }
-        Ok(self.counted(same))
+        writeln!(out, "DIFFERS {name}{n}: got {got}, expected {expected}")
     }
 
     fn crc(
-        self,
+        &mut self,
         out: &mut impl Write,
         name: &str,
         bytes: &[u8],
         expected: u64,
-    ) -> io::Result<Tally> {
+    ) -> io::Result<()> {
         self.hex(out, name, crc16(0xFFFF, bytes) as u64, expected, 4)
     }
 
     fn fnv(
-        self,
+        &mut self,
         out: &mut impl Write,
         name: &str,
         bytes: &[u8],
         expected: u64,
-    ) -> io::Result<Tally> {
+    ) -> io::Result<()> {
         self.hex(out, name, compat_key(bytes) as u64, expected, 8)
     }
 }
 
 // The CRC RevEng catalogue, CRC-16/IBM-3740 (alias CRC-16/CCITT-FALSE): check 0x29B1, start 0xFFFF.
-fn catalogue(out: &mut impl Write, t: Tally) -> io::Result<Tally> {
-    let t = t.crc(out, "crc16 of 123456789", b"123456789", 0x29B1)?;
-    let t = t.crc(out, "crc16 of nothing", b"", 0xFFFF)?;
+fn catalogue(out: &mut impl Write, t: &mut Tally) -> io::Result<()> {
+    t.crc(out, "crc16 of 123456789", b"123456789", 0x29B1)?;
+    t.crc(out, "crc16 of nothing", b"", 0xFFFF)?;
     // Of one letter: the Rust's answer (oracle/tests/values.scn).
-    let t = t.crc(out, "crc16 of A", b"A", 0xB915)?;
+    t.crc(out, "crc16 of A", b"A", 0xB915)?;
     // In two parts: the comment on crc16 in tinyboot, lib/protocol/src/crc.rs.
     let first = crc16(0xFFFF, b"1234");
     t.hex(
@@ -118,33 +106,33 @@ fn catalogue(out: &mut impl Write, t: Tally) -> io::Result<Tally> {
 }
 
 // AUTOSAR, Specification of CRC Routines, the table of CRC16 (0x1021, start 0xFFFF, nothing reflected).
-fn autosar(out: &mut impl Write, t: Tally) -> io::Result<Tally> {
-    let t = t.crc(out, "crc16 of 00 00 00 00", b"\x00\x00\x00\x00", 0x84C0)?;
-    let t = t.crc(out, "crc16 of F2 01 83", b"\xF2\x01\x83", 0xD374)?;
-    let t = t.crc(out, "crc16 of 0F AA 00 55", b"\x0F\xAA\x00\x55", 0x2023)?;
-    let t = t.crc(out, "crc16 of 00 FF 55 11", b"\x00\xFF\x55\x11", 0xB8F9)?;
-    let t = t.crc(
+fn autosar(out: &mut impl Write, t: &mut Tally) -> io::Result<()> {
+    t.crc(out, "crc16 of 00 00 00 00", b"\x00\x00\x00\x00", 0x84C0)?;
+    t.crc(out, "crc16 of F2 01 83", b"\xF2\x01\x83", 0xD374)?;
+    t.crc(out, "crc16 of 0F AA 00 55", b"\x0F\xAA\x00\x55", 0x2023)?;
+    t.crc(out, "crc16 of 00 FF 55 11", b"\x00\xFF\x55\x11", 0xB8F9)?;
+    t.crc(
         out,
         "crc16 of 33 22 55 AA BB CC DD EE FF",
         b"\x33\x22\x55\xAA\xBB\xCC\xDD\xEE\xFF",
         0xF53F,
     )?;
-    let t = t.crc(out, "crc16 of 92 6B 55", b"\x92\x6B\x55", 0x0745)?;
+    t.crc(out, "crc16 of 92 6B 55", b"\x92\x6B\x55", 0x0745)?;
     t.crc(out, "crc16 of FF FF FF FF", b"\xFF\xFF\xFF\xFF", 0x1D0F)
 }
 
 // The FNV reference code, test_fnv.c, 32-bit FNV-1a.
-fn reference(out: &mut impl Write, t: Tally) -> io::Result<Tally> {
-    let t = t.fnv(out, "compat_key of nothing", b"", 0x811C9DC5)?;
-    let t = t.fnv(out, "compat_key of a", b"a", 0xE40C292C)?;
-    let t = t.fnv(out, "compat_key of b", b"b", 0xE70C2DE5)?;
-    let t = t.fnv(out, "compat_key of foo", b"foo", 0xA9F37ED7)?;
+fn reference(out: &mut impl Write, t: &mut Tally) -> io::Result<()> {
+    t.fnv(out, "compat_key of nothing", b"", 0x811C9DC5)?;
+    t.fnv(out, "compat_key of a", b"a", 0xE40C292C)?;
+    t.fnv(out, "compat_key of b", b"b", 0xE70C2DE5)?;
+    t.fnv(out, "compat_key of foo", b"foo", 0xA9F37ED7)?;
     t.fnv(out, "compat_key of foobar", b"foobar", 0xBF9CF968)
 }
 
 // 01, bench sheet 14.
-fn version(out: &mut impl Write, t: Tally) -> io::Result<Tally> {
-    let t = t.decimal(
+fn version(out: &mut impl Write, t: &mut Tally) -> io::Result<()> {
+    t.decimal(
         out,
         "pack_version of 1.2.3, sheet ",
         14,
@@ -152,8 +140,8 @@ fn version(out: &mut impl Write, t: Tally) -> io::Result<Tally> {
         2179,
     )?;
     let v = unpack_version(2179);
-    let t = t.decimal(out, "major of ", 2179, v.major as u64, 1)?;
-    let t = t.decimal(out, "minor of ", 2179, v.minor as u64, 2)?;
+    t.decimal(out, "major of ", 2179, v.major as u64, 1)?;
+    t.decimal(out, "minor of ", 2179, v.minor as u64, 2)?;
     t.decimal(out, "patch of ", 2179, v.patch as u64, 3)
 }
 
@@ -166,8 +154,8 @@ fn hz_of(found: Option<BaudRate>) -> u64 {
 }
 
 // An index to its rate, and the rate back to the index.
-fn rate(out: &mut impl Write, t: Tally, i: u8, hz: u32) -> io::Result<Tally> {
-    let t = t.decimal(
+fn rate(out: &mut impl Write, t: &mut Tally, i: u8, hz: u32) -> io::Result<()> {
+    t.decimal(
         out,
         "rate of index ",
         i as u64,
@@ -183,17 +171,16 @@ fn rate(out: &mut impl Write, t: Tally, i: u8, hz: u32) -> io::Result<Tally> {
     )
 }
 
-fn rates(out: &mut impl Write, t: Tally) -> io::Result<Tally> {
-    let mut t = t;
+fn rates(out: &mut impl Write, t: &mut Tally) -> io::Result<()> {
     for i in 0..14u8 {
-        t = rate(out, t, i, RATES[i as usize])?;
+        rate(out, t, i, RATES[i as usize])?;
     }
-    Ok(t)
+    Ok(())
 }
 
 // 01, Record, flash, start: an index of 14 or more has no rate.
-fn no_rate(out: &mut impl Write, t: Tally) -> io::Result<Tally> {
-    let t = t.decimal(
+fn no_rate(out: &mut impl Write, t: &mut Tally) -> io::Result<()> {
+    t.decimal(
         out,
         "no rate of index ",
         14,
@@ -211,12 +198,13 @@ fn no_rate(out: &mut impl Write, t: Tally) -> io::Result<Tally> {
 
 fn main(rt: HostRuntime) -> io::Result<()> {
     let mut out = BufWriter::new(rt.alloc(), io::writer(&rt))?;
-    let t = catalogue(&mut out, Tally { ran: 0, differ: 0 })?;
-    let t = autosar(&mut out, t)?;
-    let t = reference(&mut out, t)?;
-    let t = version(&mut out, t)?;
-    let t = rates(&mut out, t)?;
-    let t = no_rate(&mut out, t)?;
+    let mut t = Tally { ran: 0, differ: 0 };
+    catalogue(&mut out, &mut t)?;
+    autosar(&mut out, &mut t)?;
+    reference(&mut out, &mut t)?;
+    version(&mut out, &mut t)?;
+    rates(&mut out, &mut t)?;
+    no_rate(&mut out, &mut t)?;
     writeln!(out, "{} vectors, {} differ", t.ran, t.differ)?;
     out.flush()
 }
