@@ -24,20 +24,6 @@ use Rattle.store_record.proofs.Record.{advanced-length, refreshed-length, advanc
 use Rattle.wire_frames.specs.Fields.{addr_of, Ok, WriteError, AddrOutOfBounds}
 use Rattle.cmd_erase.specs.Erase.{Erased, byte_count_of, range_fits, readied, erased_to, erased_by, erase_of}
 
--- s is the state as it was read
-module _ (meta : List ℕ) (s : ℕ) (e : s ≡ state_read (state_of meta)) where
-  pub ready_idle : s ≡ 0xFF → advanced meta ≡ readied meta
-  unfolding readied
-  ready_idle w = rw (← e, w) refl
-
-  pub ready-updating : s ≡ 0x7F → meta ≡ readied meta
-  unfolding readied
-  ready-updating w = rw (← e, w) refl
-
-  pub ready-validating : s ≡ 0x3F → refreshed meta 0xFFFF 0x7F 0xFFFFFFFF ≡ readied meta
-  unfolding readied
-  ready-validating w = rw (← e, w) refl
-
 -- the state is stepped only from Idle, whose byte is 0xFF, and there the step gives Updating's
 pub erase_steps : (meta : List ℕ) → updating meta ≡ false → validating meta ≡ false → (state_of meta ≡ 0xFF) × (readied meta ≡ set meta 0 0x7F)
 unfolding readied

@@ -15,6 +15,7 @@ use wire_numbers::le;
 const MODE: u8 = 0;
 
 // The app's version: the two bytes before the stored size.
+#[tactic(auto, unfolding(crate::specs::Info::app_version))]
 fn app_version(capacity: usize, flash: &[u8], meta: &[u8]) -> u16
     ensures { result ≡ app_version capacity flash.now meta.now }
 {
@@ -64,6 +65,7 @@ pub fn tell(
     lay(f, &new);
 }
 
+#[tactic(auto, unfolding(crate::specs::Info::info_of))]
 pub fn cmd_info(
     capacity: usize,
     erase_size: usize,

@@ -46,6 +46,7 @@ fn key_fits(key: u32, capacity: usize, flash: &[u8], size: u32) -> bool
 }
 
 // The address is the size. Nothing is compared with the CRC: the host does that.
+#[tactic(auto, unfolding(crate::specs::Verify::verify_of))]
 pub fn cmd_verify(
     key: u32,
     capacity: usize,

@@ -87,6 +87,7 @@ fn over(w: Run) -> Run
 }
 
 // What is left of the page is written, and the run ends.
+#[tactic(auto, unfolding(crate::specs::Write::flushed))]
 fn flush(w: Run, page: &Page, flash: &mut [u8]) -> Run
     requires { w.fill ≤ w.next }
     ensures { running flash.new page.now result.fill result.next result.failed ≡
@@ -110,6 +111,7 @@ fn data_of<'a>(f: &'a FrameBytes) -> &'a [u8]
 }
 
 // Where a write may stand: with none pending at a page's start, else where the last one ended.
+#[tactic(auto, unfolding(crate::specs::Write::write_fits))]
 fn fits(capacity: usize, f: &FrameBytes, next: u32) -> bool
     ensures { result ≡ write_fits 64 capacity f.now next }
 {
@@ -134,17 +136,6 @@ fn status_of(failed: bool) -> Status
     }
 }
 
-// How many of n bytes fit in what is left of the page.
-fn room(fill: u32, n: u32) -> u32
-    requires { (fill < 64) × (0 < n) }
-    ensures { (0 < result) × (fill + result ≤ 64) × (result ≤ n) }
-{
-    if n <= PAGE - fill {
-        return n;
-    }
-    PAGE - fill
-}
-
 // The data: what the page has room for, and then what is left.
 fn poured(d: &[u8], start: Run, page: &mut Page, flash: &mut [u8]) -> Run
     requires { (length d.now ≤ 54) × (start.fill < 64) × (start.fill ≤ start.next) × (start.next < 2 ^ 24) }
@@ -155,7 +146,7 @@ fn poured(d: &[u8], start: Run, page: &mut Page, flash: &mut [u8]) -> Run
     let n = d.len() as u32;
     let mut i: u32 = 0;
     while i < n {
-        let m = room(w.fill, n - i);
+        let m = (n - i).min(PAGE - w.fill);
         w = took(w, d, i, m, page, flash);
         i += m;
     }
@@ -182,6 +173,7 @@ fn written(f: &FrameBytes, page: &mut Page, flash: &mut [u8]) -> Run
 }
 
 // What is taken stays in the page until that is full, or until a Write ends the run. A refusal changes nothing.
+#[tactic(auto, unfolding(crate::specs::Write::write_of))]
 pub fn cmd_write(
     capacity: usize,
     f: &FrameBytes,

@@ -28,37 +28,6 @@ module _ (careful : Bool) (capacity : ℕ) (flash meta : List ℕ) where
   unfolding valid_of
   valid_long e h = simp (ne_eqb _ _ e, lt-leb _ _ h)
 
-not_off : (b : Bool) → not b ≡ false → b ≡ true
-not_off true e = refl
-not_off false e = cc
-
-not_on : (b : Bool) → not b ≡ true → b ≡ false
-not_on true e = cc
-not_on false e = refl
-
-module _ (meta : List ℕ) where
-  pub tried_none : (b : Bool) → b ≡ false → b ≡ not (eqb (trials_of meta) 0) → clears false meta ≡ tried_of meta
-  unfolding tried_of
-  tried_none b w e = simp (not_off (eqb (trials_of meta) 0) (sym e ∙ w))
-
-  -- a trial that is left is used
-  pub tried_one : (b : Bool) → b ≡ true → b ≡ not (eqb (trials_of meta) 0) → (m : List ℕ) → m ≡ trial_used meta → clears true m ≡ tried_of meta
-  unfolding tried_of
-  tried_one b w e m k = rw (k, not_on (eqb (trials_of meta) 0) (sym e ∙ w)) refl
-
-  module _ (s : ℕ) (e : s ≡ state_read (state_of meta)) where
-    pub clear_updating : s ≡ 0x7F → clears false meta ≡ cleared_of meta
-    unfolding cleared_of
-    clear_updating w = simp (eq-eqb _ _ (sym e ∙ w))
-
-    pub clear_validating : s ≡ 0x3F → tried_of meta ≡ cleared_of meta
-    unfolding cleared_of
-    clear_validating w = rw (← e, w) refl
-
-    pub clear_idle : s ≡ 0xFF → clears true meta ≡ cleared_of meta
-    unfolding cleared_of
-    clear_idle w = rw (← e, w) refl
-
 -- of the record nothing but the trials byte changes
 pub start_record : (careful : Bool) (capacity mode : ℕ) (flash meta : List ℕ) →
     ((start_of careful capacity mode flash meta).meta ≡ meta) ⊎ ((start_of careful capacity mode flash meta).meta ≡ trial_used meta)

@@ -120,6 +120,7 @@ fn asked(id: [u8; 16], id_len: usize, f: &mut FrameBytes, on: bool) -> Turn
 
 // The turn of a device with this id, the first `id_len` of its bytes, once a frame has ended in this way: none has an id where that is 0, and all 16 bytes are
 // the id where it is above 16.
+#[tactic(auto, unfolding(crate::specs::Turns::turn_of))]
 pub fn decide(id: [u8; 16], id_len: usize, kind: Kind, f: &mut FrameBytes, on: bool) -> Turn
     ensures { turned result f.new ≡ turn_of id id_len kind f.old on }
 {

@@ -17,30 +17,26 @@ loop-i-init c =
       rest = refl;
     }
 
-pub room-m-requires : goal.room-m-requires
-room-m-requires c = (c.loop-i.invariant.stands.below, omega (arith, c.loop-i-test.true))
-
 pub took-w-requires : goal.took-w-requires
 took-w-requires c =
     let v = c.loop-i.invariant in
     let p = c.requires in
-    let e = c.room-m.ensures in
-    (e.0, e.1, omega (arith, e.2, c.loop-i-test.true), v.stands.back, omega (arith, v.near, v.within, p.0, p.3), p.0)
+    (omega arith, omega arith, omega arith, v.stands.back, omega (arith, v.near, v.within, p.0, p.3), p.0)
 
 pub overflow_add-i : goal.overflow_add-i
 overflow_add-i c =
-    omega (arith, c.room-m.ensures.2, c.loop-i-test.true)
+    omega arith
 
 pub loop-i-smaller : goal.loop-i-smaller
 loop-i-smaller c =
-    omega (arith, c.room-m.ensures.0, c.room-m.ensures.2, c.loop-i-test.true)
+    omega arith
 
 pub loop-i-preserved : goal.loop-i-preserved
 loop-i-preserved c =
     let a = c.args in
     let l = c.loop-i in
-    pour_again a.d.now _ _ _ (running l.flash l.page l.w.fill l.w.next l.w.failed) l.i l.invariant c.room-m.result
-    (omega (arith, c.room-m.ensures.2, c.loop-i-test.true)) _ c.took-w.ensures
+    pour_again a.d.now _ _ _ (running l.flash l.page l.w.fill l.w.next l.w.failed) l.i l.invariant c.min-m.result
+    (omega arith) _ c.took-w.ensures
 
 pub returns : goal.returns
 returns c =
