@@ -5,12 +5,14 @@ use mathlib.Core.Bool.{Bool, true, false, not}
 use mathlib.Core.List.{List, ◌++◌}
 use lib.ListN.{length}
 use Rattle.laws.specs.Pick.{pick}
+use Rattle.std.specs.Prelude.{Some, None}
+use Rattle.wire_frames.specs.declared.frame.Kind.{Kind}
 use Rattle.wire_frames.specs.Reading.{read_frame, Outcome}
 use Rattle.wire_frames.specs.Stored.{begun, ready, ended, Read, out_of, well_of, read_of}
 use Rattle.device_state.specs.declared.refusal.Refusal.{Refusal}
 use Rattle.device_state.specs.Refusals.{refusal_number, lengths_of}
 use Rattle.device_state.proofs.Told.{refusal_some}
-use Rattle.device_feed.specs.Inner.{going, kind_of}
+use Rattle.device_feed.specs.Inner.{kind_of}
 use Rattle.device_feed.proofs.Feeding.{said_ended, said_quiet, passed_not}
 use Rattle.app_state.specs.declared.AppSetup.{AppSetup}
 use Rattle.app_state.specs.declared.AppNumbers.{AppNumbers}
@@ -33,17 +35,16 @@ module _ (cap : ℕ) (s : AppSetup) (w : AppWorld) (l room : List ℕ) (r : Read
   unfolding taken_of
   after = ap (after_read cap s w room) read_out
 
-  pub call_quiet : going r.said ≡ true → quiet_by r w room ≡ taken_of cap s w l room
+  pub call_quiet : kind_of r.said ≡ None → quiet_by r w room ≡ taken_of cap s w l room
   unfolding after_read
-  call_quiet z = ap (λ v. after_said v cap s w room r) (sym (said_quiet r.said z)) ∙ after
+  call_quiet z =
+      let i : r.said ≡ quiet = rw (sym read_out) at (said_quiet cap (ready w.state.frame) (length l) read (rw read_out at z)) in
+      ap (λ v. after_said v cap s w room r) (sym i) ∙ after
 
-  pub call_ended : going r.said ≡ false → (e : Ending) → e ≡ act_of cap s (kind_of r.said) (holding r w) room →
+  pub call_ended : (kind : Kind) → kind_of r.said ≡ Some kind → (e : Ending) → e ≡ act_of cap s kind (holding r w) room →
       ended_by r.taken e ≡ taken_of cap s w l room
   unfolding after_read
-  call_ended z e q =
-      let i : r.said ≡ ended (kind_of r.said) =
-      rw (sym read_out) at (said_ended cap (ready w.state.frame) (length l) read (rw read_out at z)) in
-      ap (ended_by r.taken) q ∙ (ap (λ v. after_said v cap s w room r) (sym i) ∙ after)
+  call_ended kind z e q = ap (ended_by r.taken) q ∙ (ap (λ v. after_said v cap s w room r) (sym (said_ended r.said kind z)) ∙ after)
 
 -- a call that is not refused: its frame is a true beginning
 pub allowed : (cap page : ℕ) (s : AppSetup) (f : List ℕ) (n : AppNumbers) (meta room : ℕ) →

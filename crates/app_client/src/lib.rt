@@ -9,7 +9,7 @@ ghost use Rattle.app_client.specs.Feed.{taken_of, app_fed_of};
 ghost use Rattle.app_client.specs.Inner.{passed_to, fed_to};
 
 use app_state::{AppSetup, AppState};
-use device_feed::{Fed, Passed, is_going, kind_of, refused};
+use device_feed::{Fed, Passed, kind_of, refused};
 use device_replies::Answer;
 
 // A call that is not refused.
@@ -27,15 +27,15 @@ fn pass(
     let got = state.numbers.got;
     let p = wire_reader::read_in(&mut state.frame, got, true, bytes);
     state.numbers.got = p.got;
-    if is_going(p.stop) {
+    let Some(kind) = kind_of(p.stop) else {
         return Passed {
             taken: p.taken,
             answer: Answer::Quiet,
         };
-    }
+    };
     Passed {
         taken: p.taken,
-        answer: app_dispatcher::app_dispatch(setup, kind_of(p.stop), state, meta, reply),
+        answer: app_dispatcher::app_dispatch(setup, kind, state, meta, reply),
     }
 }
 

@@ -8,6 +8,8 @@ use lib.Dec.{eqb, ltb}
 use native.Mathlib.Omega.{arith}
 use Rattle.laws.specs.Pick.{pick}
 use Rattle.laws.proofs.Bools.{and_both}
+use Rattle.std.specs.Prelude.{Some, None}
+use Rattle.wire_frames.specs.declared.frame.Kind.{Kind}
 use Rattle.wire_frames.specs.Reading.{read_frame, Outcome, Begun, Ended}
 use Rattle.wire_frames.specs.Stored.{begun, ready, Said, quiet, ended, no_beginning, Read, out_of, well_of, read_of}
 use Rattle.device_state.specs.declared.Setup.{Setup}
@@ -18,18 +20,17 @@ use Rattle.device_state.specs.Refusals.{set_up, well_formed, run_fits, refusal_n
 use Rattle.device_state.proofs.Told.{refusal_some}
 use Rattle.device_dispatcher.specs.Dispatch.{Ending, dispatch_of}
 use Rattle.device_feed.specs.Feed.{Called, holding, quiet_by, ended_by, after_said, after_read, taken_of, refused_by, fed_of, refusal_for}
-use Rattle.device_feed.specs.Inner.{going, kind_of}
+use Rattle.device_feed.specs.Inner.{kind_of}
 
 -- a reading is no refusal: a frame goes on, or has ended
-pub said_ended : (cap : ℕ) (f : List ℕ) (n : ℕ) (o : Outcome) → going (out_of cap f n o).said ≡ false →
-    (out_of cap f n o).said ≡ ended (kind_of (out_of cap f n o).said)
-said_ended cap f n (Begun q) e = let z : ◌≡◌ {A = ℕ} 0 1 = cc in absurd (omega arith)
-said_ended cap f n (Ended k q r) e = refl
+pub said_quiet : (cap : ℕ) (f : List ℕ) (n : ℕ) (o : Outcome) → kind_of (out_of cap f n o).said ≡ None → (out_of cap f n o).said ≡ quiet
+said_quiet cap f n (Begun q) e = refl
+said_quiet cap f n (Ended k q r) e = cc
 
-pub said_quiet : (x : Said) → going x ≡ true → x ≡ quiet
-said_quiet quiet e = refl
-said_quiet (ended k) e = let z : ◌≡◌ {A = ℕ} 0 1 = cc in absurd (omega arith)
-said_quiet no_beginning e = let z : ◌≡◌ {A = ℕ} 0 1 = cc in absurd (omega arith)
+pub said_ended : (x : Said) (k : Kind) → kind_of x ≡ Some k → x ≡ ended k
+said_ended quiet k e = cc
+said_ended (ended j) k e = cc
+said_ended no_beginning k e = cc
 
 -- the reading of a true beginning, r being what the reader left
 module _ (cap page : ℕ) (s : Setup) (w : World) (l room : List ℕ) (r : Read) (k : r ≡ read_of cap true w.state.frame w.state.numbers.got l)
@@ -45,17 +46,16 @@ module _ (cap page : ℕ) (s : Setup) (w : World) (l room : List ℕ) (r : Read)
   unfolding taken_of
   after = ap (after_read cap page s w room) read_out
 
-  pub call_quiet : going r.said ≡ true → quiet_by r w room ≡ taken_of cap page s w l room
+  pub call_quiet : kind_of r.said ≡ None → quiet_by r w room ≡ taken_of cap page s w l room
   unfolding after_read
-  call_quiet z = ap (λ v. after_said v cap page s w room r) (sym (said_quiet r.said z)) ∙ after
+  call_quiet z =
+      let i : r.said ≡ quiet = rw (sym read_out) at (said_quiet cap (ready w.state.frame) (length l) read (rw read_out at z)) in
+      ap (λ v. after_said v cap page s w room r) (sym i) ∙ after
 
-  pub call_ended : going r.said ≡ false → (e : Ending) → e ≡ dispatch_of cap page s (kind_of r.said) (holding r w) room →
+  pub call_ended : (kind : Kind) → kind_of r.said ≡ Some kind → (e : Ending) → e ≡ dispatch_of cap page s kind (holding r w) room →
       ended_by r.taken e ≡ taken_of cap page s w l room
   unfolding after_read
-  call_ended z e q =
-      let i : r.said ≡ ended (kind_of r.said) =
-      rw (sym read_out) at (said_ended cap (ready w.state.frame) (length l) read (rw read_out at z)) in
-      ap (ended_by r.taken) q ∙ (ap (λ v. after_said v cap page s w room r) (sym i) ∙ after)
+  call_ended kind z e q = ap (ended_by r.taken) q ∙ (ap (λ v. after_said v cap page s w room r) (sym (said_ended r.said kind z)) ∙ after)
 
 -- a call that is not refused: its frame is a true beginning, and its state is open
 pub record Allowed (cap : ℕ) (f : List ℕ) (n : Numbers) : Type 0 where

@@ -1,5 +1,5 @@
 -- The code's answers as what the definitions speak of; an auditor need not read it.
-use Rattle.std.specs.Prelude.{Bool, true, false, List, ℕ}
+use Rattle.std.specs.Prelude.{List, Option, Some, None}
 use Rattle.wire_frames.specs.declared.frame.Kind.{Kind}
 use Rattle.wire_frames.specs.Stored.{Said, quiet, ended, no_beginning}
 use Rattle.device_state.specs.declared.State.{State}
@@ -17,13 +17,8 @@ abbrev pub passed_to : Passed → State → List ℕ → List ℕ → List ℕ �
 passed_to r s flash meta room =
     record { told = told_of r.answer; taken = r.taken; left = record { state = s; flash = flash; meta = meta }; room = room }
 
--- whether no frame has ended; and how one has, where one has
-abbrev pub going : Said → Bool
-going quiet = true
-going (ended kind) = false
-going no_beginning = false
-
-abbrev pub kind_of : Said → Kind
-kind_of quiet = Kind.Overheard
-kind_of (ended kind) = kind
-kind_of no_beginning = Kind.Overheard
+-- how a frame has ended, where one has
+abbrev pub kind_of : Said → Option Kind
+kind_of quiet = None
+kind_of (ended kind) = Some kind
+kind_of no_beginning = None

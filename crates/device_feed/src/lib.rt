@@ -2,13 +2,12 @@
 
 #![tactic(auto)]
 
-ghost use Rattle.std.specs.Prelude.{◌≡◌, true, false};
-ghost use Rattle.wire_frames.specs.Reading.{kind_status};
+ghost use Rattle.std.specs.Prelude.{◌≡◌, true};
 ghost use Rattle.wire_frames.specs.Stored.{well_of, said_of};
 ghost use Rattle.device_state.specs.Refusals.{refusal_number};
 ghost use Rattle.device_replies.specs.Answers.{mute, told_of};
 ghost use Rattle.device_feed.specs.Feed.{taken_of, fed_of};
-ghost use Rattle.device_feed.specs.Inner.{passed_to, fed_to, going, kind_of};
+ghost use Rattle.device_feed.specs.Inner.{passed_to, fed_to, kind_of};
 
 use device_replies::Answer;
 use device_state::refusal::Refusal;
@@ -44,25 +43,17 @@ pub fn refused(refusal: Refusal) -> Answer
     }
 }
 
-// Whether no frame has ended.
-pub fn is_going(stop: Stop) -> bool
-    ensures { result ≡ going (said_of stop) }
-{
-    stop == Stop::Going
-}
-
-// How a frame has ended.
-pub fn kind_of(stop: Stop) -> Kind
-    ensures { kind_status result ≡ kind_status (kind_of (said_of stop)) }
+// How a frame has ended, where one has.
+pub fn kind_of(stop: Stop) -> Option<Kind>
+    ensures { result ≡ kind_of (said_of stop) }
 {
     match stop {
-        Stop::Refused => Kind::Overheard,
-        Stop::Going => Kind::Overheard,
-        Stop::Unsupported => Kind::Unsupported,
-        Stop::PayloadOverflow => Kind::PayloadOverflow,
-        Stop::Overheard => Kind::Overheard,
-        Stop::CrcMismatch => Kind::CrcMismatch,
-        Stop::Good => Kind::Good,
+        Stop::Refused | Stop::Going => None,
+        Stop::Unsupported => Some(Kind::Unsupported),
+        Stop::PayloadOverflow => Some(Kind::PayloadOverflow),
+        Stop::Overheard => Some(Kind::Overheard),
+        Stop::CrcMismatch => Some(Kind::CrcMismatch),
+        Stop::Good => Some(Kind::Good),
     }
 }
 
@@ -82,15 +73,15 @@ fn pass(
     let got = state.numbers.got;
     let p = wire_reader::read_in(&mut state.frame, got, true, bytes);
     state.numbers.got = p.got;
-    if is_going(p.stop) {
+    let Some(kind) = kind_of(p.stop) else {
         return Passed {
             taken: p.taken,
             answer: Answer::Quiet,
         };
-    }
+    };
     Passed {
         taken: p.taken,
-        answer: device_dispatcher::dispatch(setup, kind_of(p.stop), state, flash, meta, reply),
+        answer: device_dispatcher::dispatch(setup, kind, state, flash, meta, reply),
     }
 }
 

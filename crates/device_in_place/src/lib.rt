@@ -12,7 +12,7 @@ ghost use Rattle.device_in_place.specs.On.{rest_in, world_in, on_by, fed_on};
 ghost use Rattle.device_in_place.specs.Byte.{plain_at, laid_to, lay_byte_of, clear_of, byte_on};
 ghost use Rattle.device_in_place.specs.Inner.{called_on, refusal_on};
 
-use device_feed::{Passed, is_going, kind_of, refused};
+use device_feed::{Passed, kind_of, refused};
 use device_replies::Answer;
 use device_state::refusal::Refusal;
 use device_state::{Numbers, Setup, State, refusal};
@@ -103,8 +103,8 @@ fn pass(
         taken: p.taken,
         answer: Answer::Quiet,
     };
-    if !is_going(p.stop) {
-        r = ended(setup, kind_of(p.stop), p.taken, n, s, flash, meta, reply);
+    if let Some(kind) = kind_of(p.stop) {
+        r = ended(setup, kind, p.taken, n, s, flash, meta, reply);
     }
     r
 }

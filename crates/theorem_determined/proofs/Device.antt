@@ -144,11 +144,8 @@ dispatch κs a o o' p q i =
 pub refused : Determined device_feed_contracts.refused.ended device_feed.refused.Reads.Post
 refused κs a o o' p q i = (answer_apart o.0 o'.0 (plain p q) i, o.1)
 
-pub is_going : Determined device_feed_contracts.is_going.ended device_feed.is_going.Reads.Post
-is_going κs a o o' p q i = (plain p q i, o.1)
-
 pub kind_of : Determined device_feed_contracts.kind_of.ended device_feed.kind_of.Reads.Post
-kind_of κs a o o' p q i = (kind_apart o.0 o'.0 (plain p q) i, o.1)
+kind_of κs a o o' p q i = (plain p q i, o.1)
 
 pub feed_in : Determined device_feed_contracts.feed_in.ended device_feed.feed_in.Reads.Post
 feed_in κs a o o' p q i =
