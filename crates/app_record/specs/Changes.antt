@@ -1,15 +1,16 @@
 -- What the running app changes in the record (02, E3), said of the steps of a rewrite (02, E4): how many are taken, to which record.
-use Rattle.std.specs.Prelude.{ℕ, not, List, length, eqb, if◌then◌else◌}
+use Rattle.std.specs.Prelude.{ℕ, not, List, length, eqb, Result, Ok, Err, if◌then◌else◌}
 use Rattle.store_record.specs.Cuts.{cut_after}
 use Rattle.store_record.specs.Record.{validating, checksum_of, size_of, baud_of, position_of, fresh_of, row_of}
-use Rattle.app_record.specs.declared.Stored.{Stored}
-use Rattle.app_record.specs.declared.Stored.TheVariants.{Nothing, Written, BadRecord}
+use Rattle.app_record.specs.declared.Change.{Change}
+use Rattle.app_record.specs.declared.Change.TheVariants.{Nothing, Written}
+use Rattle.app_record.specs.declared.BadRecord.{BadRecord}
 
 -- the answers by their numbers: 0 nothing to do, 1 rewritten, 13 no record (01, What a call says, 13)
-abbrev pub stored_number : Stored → ℕ
-stored_number Nothing = 0
-stored_number Written = 1
-stored_number BadRecord = 13
+abbrev pub stored_number : Result Change BadRecord → ℕ
+stored_number (Ok Nothing) = 0
+stored_number (Ok Written) = 1
+stored_number (Err e) = 13
 
 -- what a change leaves: its answer, and the record
 pub record Left : Type 0 where

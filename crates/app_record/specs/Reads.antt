@@ -1,10 +1,10 @@
 -- What the running app reads off the record (02, E3 and E10).
-use Rattle.std.specs.Prelude.{ℕ, not, List, length, eqb, if◌then◌else◌}
+use Rattle.std.specs.Prelude.{ℕ, not, List, length, eqb, Result, Ok, Err, if◌then◌else◌}
+use Rattle.wire_rates.specs.declared.BaudRate.{BaudRate}
 use Rattle.wire_rates.specs.Baud.{baud_index}
 use Rattle.store_rate.specs.Rate.{rate_read}
 use Rattle.store_record.specs.Record.{position_of}
-use Rattle.app_record.specs.declared.RateRead.{RateRead}
-use Rattle.app_record.specs.declared.PositionRead.{PositionRead}
+use Rattle.app_record.specs.declared.BadRecord.{BadRecord}
 
 -- what is read: 0 and a value, or 13 where there is no record (01, What a call says, 13)
 pub record Found : Type 0 where
@@ -18,13 +18,13 @@ abbrev pub no_record : Found
 no_record = record { number = 13; value = 0 }
 
 -- the answers by them: a rate by its index, a position by its byte
-abbrev pub rate_told : RateRead → Found
-rate_told (RateRead.Rate rate) = found (baud_index rate)
-rate_told RateRead.BadRecord = no_record
+abbrev pub rate_told : Result BaudRate BadRecord → Found
+rate_told (Ok rate) = found (baud_index rate)
+rate_told (Err e) = no_record
 
-abbrev pub position_told : PositionRead → Found
-position_told (PositionRead.Position byte) = found byte
-position_told PositionRead.BadRecord = no_record
+abbrev pub position_told : Result ℕ BadRecord → Found
+position_told (Ok byte) = found byte
+position_told (Err e) = no_record
 
 -- the rate by its index: an unknown stored index means the build's default (02, E3)
 unfoldable pub rate_of : List ℕ → ℕ → Found

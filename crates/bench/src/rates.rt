@@ -1,7 +1,7 @@
 // The app's own calls on the record lent: the confirm, and the rate that the bootloader listens at.
 use crate::module::Bench;
 use crate::{module, show};
-use app_record::{RateRead, baud, confirm, set_baud, stored_number};
+use app_record::{BadRecord, baud, confirm, set_baud, stored_number};
 use std::io;
 use std::io::Write;
 use store_flash::cells::first;
@@ -36,10 +36,10 @@ fn stored(bench: &mut Bench, rate: BaudRate, out: &mut impl Write) -> io::Result
 }
 
 // The bits per second, or the refusal's number.
-fn hz_of(read: RateRead) -> u64 {
+fn hz_of(read: Result<BaudRate, BadRecord>) -> u64 {
     match read {
-        RateRead::Rate(rate) => rate.hz() as u64,
-        RateRead::BadRecord => 13,
+        Ok(rate) => rate.hz() as u64,
+        Err(BadRecord) => 13,
     }
 }
 

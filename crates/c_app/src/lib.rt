@@ -5,16 +5,15 @@
 ghost use Rattle.std.specs.Prelude.{◌≡◌, ◌≤◌, ◌++◌, eqb, length};
 ghost use Rattle.app_state.specs.Refusals.{app_set_up};
 ghost use Rattle.app_record.specs.Changes.{leaves, confirm_of};
-ghost use Rattle.app_record.specs.Reads.{rate_told, position_told};
 ghost use Rattle.app_client.specs.Feed.{app_fed_of};
 ghost use Rattle.c_layout.specs.Layout.{part, answer_size};
 ghost use Rattle.c_start.specs.Start.{after_new};
 ghost use Rattle.c_app.specs.App.{app_setup_size, app_state_size, holds_app, app_numbers_from, app_from, app_number_bytes, app_bytes};
 ghost use Rattle.c_app.specs.Calls.{after_app, app_roomless, app_world_from, app_called, app_fed_in, c_app_new, c_set_baud};
-ghost use Rattle.c_app.specs.Calls.{hz_told, c_baud, place_told, c_position};
+ghost use Rattle.c_app.specs.Calls.{c_baud, c_position};
 
 use app_client::app_feed_in;
-use app_record::{PositionRead, RateRead, baud, confirm, position, set_baud, stored_number};
+use app_record::{BadRecord, baud, confirm, position, set_baud, stored_number};
 use app_state::{AppNumbers, AppSetup, AppState, app_new, app_refuses};
 use c_layout::{ANSWER_SIZE, flag, lay_answer, refuse};
 use device_in_place::taken_out;
@@ -184,15 +183,6 @@ pub fn set_baud_in(meta: &mut [u8], index: u8) -> u8
     stored_number(set_baud(meta, rate))
 }
 
-fn hz_told(read: RateRead) -> u32
-    ensures { result ≡ hz_told (rate_told read) }
-{
-    match read {
-        RateRead::Rate(rate) => rate.hz(),
-        RateRead::BadRecord => 13,
-    }
-}
-
 // The stored rate in bits per second; `default` is the index of the build's own.
 #[tactic(auto, unfolding(crate::specs::Calls::c_baud))]
 pub fn baud_in(meta: &[u8], default: u8) -> u32
@@ -201,15 +191,9 @@ pub fn baud_in(meta: &[u8], default: u8) -> u32
     let Some(rate) = BaudRate::from_u8(default) else {
         return 10;
     };
-    hz_told(baud(meta, rate))
-}
-
-fn place_told(read: PositionRead) -> u16
-    ensures { result ≡ place_told (position_told read) }
-{
-    match read {
-        PositionRead::Position(byte) => byte as u16,
-        PositionRead::BadRecord => 256 + 13,
+    match baud(meta, rate) {
+        Ok(rate) => rate.hz(),
+        Err(BadRecord) => 13,
     }
 }
 
@@ -217,5 +201,8 @@ fn place_told(read: PositionRead) -> u16
 pub fn position_in(meta: &[u8]) -> u16
     ensures { result ≡ c_position meta.now }
 {
-    place_told(position(meta))
+    match position(meta) {
+        Ok(place) => place as u16,
+        Err(BadRecord) => 256 + 13,
+    }
 }

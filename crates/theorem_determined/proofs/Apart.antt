@@ -14,12 +14,12 @@ use Rattle.wire_frames.specs.declared.frame.Stop.{Stop}
 use Rattle.wire_frames.specs.Stored.{Said, quiet, ended, no_beginning, said_of}
 use Rattle.store_record.specs.declared.traits.BootState.{BootState}
 use Rattle.store_record.specs.State.{state_byte}
+use Rattle.wire_rates.specs.declared.BaudRate.{BaudRate}
 use Rattle.wire_rates.proofs.Apart.{rate_apart}
-use Rattle.app_record.specs.declared.Stored.{Stored}
-use Rattle.app_record.specs.declared.RateRead.{RateRead}
-use Rattle.app_record.specs.declared.PositionRead.{PositionRead}
+use Rattle.app_record.specs.declared.BadRecord.{BadRecord}
+use Rattle.app_record.specs.declared.Change.{Change}
 use Rattle.app_record.specs.Changes.{stored_number}
-use Rattle.app_record.specs.Reads.{rate_told, position_told}
+use Rattle.app_record.specs.Reads.{Found, rate_told, position_told}
 use Rattle.device_state.specs.declared.refusal.Refusal.{Refusal}
 use Rattle.device_state.specs.Refusals.{refusal_number, refusal_told}
 use Rattle.device_state.proofs.Told.{refusal_some}
@@ -155,29 +155,33 @@ outlook_back Outlook.BadRecord = refl
 pub outlook_apart : (a b : Outlook) → outlook_number a ≡ outlook_number b → a ≡ b
 outlook_apart = apart outlook_number outlook_from outlook_back
 
-abbrev stored_from : ℕ → Stored
-stored_from n = pick (eqb n 0) Stored.Nothing (pick (eqb n 1) Stored.Written Stored.BadRecord)
+-- a change and a reading are told from no record by the number, 13
+abbrev stored_from : ℕ → Result Change BadRecord
+stored_from n = pick (eqb n 0) (Ok Change.Nothing) (pick (eqb n 1) (Ok Change.Written) (Err record {}))
 
-stored_back : (s : Stored) → stored_from (stored_number s) ≡ s
-stored_back Stored.Nothing = refl
-stored_back Stored.Written = refl
-stored_back Stored.BadRecord = refl
+stored_back : (s : Result Change BadRecord) → stored_from (stored_number s) ≡ s
+stored_back (Ok Change.Nothing) = refl
+stored_back (Ok Change.Written) = refl
+stored_back (Err e) = refl
 
-pub stored_apart : (a b : Stored) → stored_number a ≡ stored_number b → a ≡ b
+pub stored_apart : (a b : Result Change BadRecord) → stored_number a ≡ stored_number b → a ≡ b
 stored_apart = apart stored_number stored_from stored_back
 
--- what was read is told from what was not by the number, 0 or 13
-pub rate_read_apart : (a b : RateRead) → rate_told a ≡ rate_told b → a ≡ b
-rate_read_apart (RateRead.Rate x) (RateRead.Rate y) e = ap RateRead.Rate (rate_apart x y (ap (λ f. f.value) e))
-rate_read_apart (RateRead.Rate x) RateRead.BadRecord e = let z : ◌≡◌ {A = ℕ} 0 13 = ap (λ f. f.number) e in absurd (omega arith)
-rate_read_apart RateRead.BadRecord (RateRead.Rate y) e = let z : ◌≡◌ {A = ℕ} 13 0 = ap (λ f. f.number) e in absurd (omega arith)
-rate_read_apart RateRead.BadRecord RateRead.BadRecord e = refl
+pub rate_read_apart : (a b : Result BaudRate BadRecord) → rate_told a ≡ rate_told b → a ≡ b
+rate_read_apart (Ok x) (Ok y) e = ap Ok (rate_apart x y (ap (λ f. f.value) e))
+rate_read_apart (Ok x) (Err _) e = let z : ◌≡◌ {A = ℕ} 0 13 = ap (λ f. f.number) e in absurd (omega arith)
+rate_read_apart (Err _) (Ok y) e = let z : ◌≡◌ {A = ℕ} 13 0 = ap (λ f. f.number) e in absurd (omega arith)
+rate_read_apart (Err _) (Err _) e = refl
 
-pub position_read_apart : (a b : PositionRead) → position_told a ≡ position_told b → a ≡ b
-position_read_apart (PositionRead.Position x) (PositionRead.Position y) e = ap PositionRead.Position (ap (λ f. f.value) e)
-position_read_apart (PositionRead.Position x) PositionRead.BadRecord e = let z : ◌≡◌ {A = ℕ} 0 13 = ap (λ f. f.number) e in absurd (omega arith)
-position_read_apart PositionRead.BadRecord (PositionRead.Position y) e = let z : ◌≡◌ {A = ℕ} 13 0 = ap (λ f. f.number) e in absurd (omega arith)
-position_read_apart PositionRead.BadRecord PositionRead.BadRecord e = refl
+abbrev position_from : Found → Result ℕ BadRecord
+position_from f = pick (eqb f.number 0) (Ok f.value) (Err record {})
+
+position_back : (p : Result ℕ BadRecord) → position_from (position_told p) ≡ p
+position_back (Ok place) = refl
+position_back (Err e) = refl
+
+pub position_apart : (a b : Result ℕ BadRecord) → position_told a ≡ position_told b → a ≡ b
+position_apart = apart position_told position_from position_back
 
 abbrev mended_from : ℕ → ℕ → Mended
 mended_from n count = pick (eqb n 0) (Mended.Done count) (pick (eqb n 10) Mended.BadSetup (pick (eqb n 13) Mended.BadRecord Mended.ShortList))
