@@ -1,17 +1,17 @@
 // The early answer: will a start stay, from the record alone.
 use crate::module::Bench;
 use crate::{show, starting};
-use device_early::{Outlook, early};
+use device_early::{EarlyError, Outlook, early};
 use std::io;
 use std::io::Write;
 use store_flash::cells::first;
 
-fn outlook(out: &mut impl Write, outlook: Outlook) -> io::Result<()> {
+fn outlook(out: &mut impl Write, outlook: Result<Outlook, EarlyError>) -> io::Result<()> {
     match outlook {
-        Outlook::ReadsOn => show::text(out, b"reads on"),
-        Outlook::Stays => show::text(out, b"stays"),
-        Outlook::BadSetup => show::decimal(out, 10),
-        Outlook::BadRecord => show::decimal(out, 13),
+        Ok(Outlook::ReadsOn) => show::text(out, b"reads on"),
+        Ok(Outlook::Stays) => show::text(out, b"stays"),
+        Err(EarlyError::BadSetup) => show::decimal(out, 10),
+        Err(EarlyError::BadRecord) => show::decimal(out, 13),
     }
 }
 

@@ -15,33 +15,28 @@ use store_record::traits::BootState;
 use wire_numbers::RunMode;
 
 // The early answer. `ReadsOn` promises nothing: the start reads the flash, and may stay after all.
-#[derive(Clone, Copy)]
+#[derive(Clone, Copy, Debug, PartialEq, Eq)]
 pub enum Outlook {
     ReadsOn,
     Stays,
+}
+
+// Its refusals: two of the start's six are all it has.
+#[derive(Clone, Copy, Debug, PartialEq, Eq)]
+pub enum EarlyError {
     BadSetup,
     BadRecord,
 }
 
-pub fn outlook_number(outlook: Outlook) -> u8
+// The answer by its number; a refusal has the start's.
+pub fn outlook_number(outlook: Result<Outlook, EarlyError>) -> u8
     ensures { result ≡ outlook_number outlook }
 {
     match outlook {
-        Outlook::ReadsOn => 0,
-        Outlook::Stays => 1,
-        Outlook::BadSetup => 10,
-        Outlook::BadRecord => 13,
-    }
-}
-
-fn is_validating(meta: &[u8]) -> bool
-    ensures { result ≡ validating meta.now }
-{
-    let state = boot_meta_store::boot_state(meta);
-    match state {
-        BootState::Idle => false,
-        BootState::Updating => false,
-        BootState::Validating => true,
+        Ok(Outlook::ReadsOn) => 0,
+        Ok(Outlook::Stays) => 1,
+        Err(EarlyError::BadSetup) => 10,
+        Err(EarlyError::BadRecord) => 13,
     }
 }
 
@@ -49,10 +44,7 @@ fn is_validating(meta: &[u8]) -> bool
 fn is_spent(meta: &[u8]) -> bool
     ensures { result ≡ (validating meta.now && eqb (trials_of meta.now) 0) }
 {
-    if is_validating(meta) {
-        return !boot_meta_store::has_trials(meta);
-    }
-    false
+    boot_meta_store::boot_state(meta) == BootState::Validating && !boot_meta_store::has_trials(meta)
 }
 
 // Whether the size stored is no image's of this module.
@@ -60,20 +52,15 @@ pub fn is_sizeless(capacity: usize, meta: &[u8]) -> bool
     ensures { result ≡ sizeless capacity meta.now }
 {
     let size = boot_meta_store::app_size(meta) as usize;
-    if size == 0 {
-        return true;
-    }
-    capacity < size
+    size == 0 || capacity < size
 }
 
 // What the record says of any flash.
+#[tactic(auto, unfolding(crate::specs::Early::record_stays))]
 fn record_stays(careful: bool, capacity: usize, meta: &[u8]) -> bool
     ensures { result ≡ record_stays careful capacity meta.now }
 {
-    if boot_meta_store::is_updating(meta) {
-        return true;
-    }
-    if is_spent(meta) {
+    if boot_meta_store::is_updating(meta) || is_spent(meta) {
         return true;
     }
     if boot_meta_store::app_checksum(meta) == 0xFFFF {
@@ -85,27 +72,24 @@ fn record_stays(careful: bool, capacity: usize, meta: &[u8]) -> bool
 fn is_staying(mode: RunMode, careful: bool, capacity: usize, meta: &[u8]) -> bool
     ensures { result ≡ stays careful capacity (mode_number mode) meta.now }
 {
-    if let RunMode::Service = mode {
-        return true;
-    }
-    record_stays(careful, capacity, meta)
+    mode == RunMode::Service || record_stays(careful, capacity, meta)
 }
 
 // Whether a start that asks for this mode will stay, as far as the record tells: no trial is used, and nothing is written.
-pub fn early(setup: Setup, mode: RunMode, meta: &[u8]) -> Outlook
+#[tactic(auto, unfolding(crate::specs::Early::early_of))]
+pub fn early(setup: Setup, mode: RunMode, meta: &[u8]) -> Result<Outlook, EarlyError>
     ensures { outlook_number result ≡ early_of 64 setup (mode_number mode) meta.now }
 {
     let capacity = setup.capacity;
     let careful = setup.start_kind == CAREFUL;
-    let good = refusal::set_up(setup);
-    if !good {
-        return Outlook::BadSetup;
+    if !refusal::set_up(setup) {
+        return Err(EarlyError::BadSetup);
     }
     if meta.len() != RECORD {
-        return Outlook::BadRecord;
+        return Err(EarlyError::BadRecord);
     }
     if is_staying(mode, careful, capacity, meta) {
-        return Outlook::Stays;
+        return Ok(Outlook::Stays);
     }
-    Outlook::ReadsOn
+    Ok(Outlook::ReadsOn)
 }

@@ -110,9 +110,9 @@ fn outlook(setup: Setup, kind: u8, meta: &[u8]) -> &'static str {
     let mut setup = setup;
     setup.start_kind = kind;
     match early(setup, RunMode::HandOff, meta) {
-        Outlook::Stays => "stays",
-        Outlook::ReadsOn => "reads on",
-        _ => "is refused",
+        Ok(Outlook::Stays) => "stays",
+        Ok(Outlook::ReadsOn) => "reads on",
+        Err(_) => "is refused",
     }
 }
 

@@ -24,6 +24,7 @@ use Rattle.device_state.specs.declared.refusal.Refusal.{Refusal}
 use Rattle.device_state.specs.Refusals.{refusal_number, refusal_told}
 use Rattle.device_state.proofs.Told.{refusal_some}
 use Rattle.device_early.specs.declared.Outlook.{Outlook}
+use Rattle.device_early.specs.declared.EarlyError.{EarlyError}
 use Rattle.device_early.specs.Early.{outlook_number}
 use Rattle.device_mend.specs.declared.Mended.{Mended}
 use Rattle.device_mend.specs.Mend.{refusal_in, count_in}
@@ -143,16 +144,17 @@ state_back BootState.Validating = refl
 pub state_apart : (a b : BootState) → state_byte a ≡ state_byte b → a ≡ b
 state_apart = apart state_byte state_from state_back
 
-abbrev outlook_from : ℕ → Outlook
-outlook_from n = pick (eqb n 0) Outlook.ReadsOn (pick (eqb n 1) Outlook.Stays (pick (eqb n 10) Outlook.BadSetup Outlook.BadRecord))
+abbrev outlook_from : ℕ → Result Outlook EarlyError
+outlook_from n =
+    pick (eqb n 0) (Ok Outlook.ReadsOn) (pick (eqb n 1) (Ok Outlook.Stays) (pick (eqb n 10) (Err EarlyError.BadSetup) (Err EarlyError.BadRecord)))
 
-outlook_back : (o : Outlook) → outlook_from (outlook_number o) ≡ o
-outlook_back Outlook.ReadsOn = refl
-outlook_back Outlook.Stays = refl
-outlook_back Outlook.BadSetup = refl
-outlook_back Outlook.BadRecord = refl
+outlook_back : (o : Result Outlook EarlyError) → outlook_from (outlook_number o) ≡ o
+outlook_back (Ok Outlook.ReadsOn) = refl
+outlook_back (Ok Outlook.Stays) = refl
+outlook_back (Err EarlyError.BadSetup) = refl
+outlook_back (Err EarlyError.BadRecord) = refl
 
-pub outlook_apart : (a b : Outlook) → outlook_number a ≡ outlook_number b → a ≡ b
+pub outlook_apart : (a b : Result Outlook EarlyError) → outlook_number a ≡ outlook_number b → a ≡ b
 outlook_apart = apart outlook_number outlook_from outlook_back
 
 -- a change and a reading are told from no record by the number, 13
