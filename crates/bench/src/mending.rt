@@ -1,7 +1,7 @@
 // A mend of the record lent, with what was done.
 use crate::module::Bench;
 use crate::{module, show};
-use device_mend::{ENTRY, Mended, mend};
+use device_mend::{ENTRY, MendError, mend};
 use std::io;
 use std::io::Write;
 use store_flash::cells::first;
@@ -30,15 +30,15 @@ fn entries(out: &mut impl Write, list: &[u8]) -> io::Result<()> {
     Ok(())
 }
 
-fn told(out: &mut impl Write, said: Mended, list: &[u8]) -> io::Result<()> {
+fn told(out: &mut impl Write, said: Result<u8, MendError>, list: &[u8]) -> io::Result<()> {
     match said {
-        Mended::Done { count } => {
+        Ok(count) => {
             show::decimal(out, 0)?;
             entries(out, first(list, ENTRY * (count as usize)))
         }
-        Mended::BadSetup => show::decimal(out, 10),
-        Mended::BadRecord => show::decimal(out, 13),
-        Mended::ShortList => show::decimal(out, 27),
+        Err(MendError::BadSetup) => show::decimal(out, 10),
+        Err(MendError::BadRecord) => show::decimal(out, 13),
+        Err(MendError::ShortList) => show::decimal(out, 27),
     }
 }
 

@@ -44,21 +44,3 @@ module _ (capacity : ℕ) where
   pub mended-first : (m : List ℕ) → length m ≡ 12 → (t : ℕ) → t ≡ low_ones (get_or m 1 0) → missized capacity m ≡ false →
       (s : ℕ) → s ≡ state_read (get_or m 0 0) → set (set m 0 s) 1 t ≡ mended capacity m
   mended-first m n = kept (whole m n)
-
--- twelve bytes laid over twelve others are those bytes
-over-all : {m n : List ℕ} → Whole m → Whole n → sets n 0 m ≡ m
-over-all (cells a b c d e f g h i j k l) (cells o p q r s t u v w x y z) = refl
-
-pub laid-over : (m n : List ℕ) → length m ≡ 12 → length n ≡ 12 → sets n 0 m ≡ m
-laid-over m n h i = over-all (whole m h) (whole n i)
-
-pub laid-all : (m : List ℕ) → length m ≡ 12 → sets blank 0 m ≡ m
-laid-all m h = laid-over m blank h refl
-
--- the steps of a mend, each from what the one before left
-module _ (capacity : ℕ) (meta list old new meta' list' : List ℕ) (count : ℕ) where
-  pub all-mended : length meta ≡ 12 → length new ≡ 12 → old ≡ meta → new ≡ mended capacity old → meta' ≡ sets meta 0 new →
-      (count ≡ changed old new) × (list' ≡ sets list 0 (changes 0 old new)) → leaves 0 count meta' list' ≡ mended_to capacity meta list
-  all-mended h i eo en em el =
-      let k : meta' ≡ new = em ∙ laid-over new meta i h in
-      rw (el.0, el.1, k, en, eo) refl

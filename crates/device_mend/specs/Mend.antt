@@ -1,12 +1,13 @@
 -- A record mended, and what was done to it (02, E14). `page` is the page size.
-use Rattle.std.specs.Prelude.{ℕ, suc, ◌-◌, ◌^◌, Bool, not, ◌&&◌, List, [], ◌∷◌, length, replicate, eqb, ltb, if◌then◌else◌}
+use Rattle.std.specs.Prelude.{ℕ, suc, ◌-◌, ◌^◌, Bool, not, ◌&&◌, List, [], ◌∷◌, length, replicate, eqb, ltb, Result, Ok, Err, if◌then◌else◌}
 use Rattle.std.proofs.lemmas.List.Edits.{sets}
 use Rattle.store_record.specs.State.{state_read}
 use Rattle.store_record.specs.Record.{state_of, trials_of, checksum_of, starts_left}
 use Rattle.device_state.specs.declared.Setup.{Setup}
 use Rattle.device_state.specs.Refusals.{set_up}
 use Rattle.device_early.specs.Early.{sizeless}
-use Rattle.device_mend.specs.declared.Mended.{Mended}
+use Rattle.device_mend.specs.declared.MendError.{MendError}
+use Rattle.device_mend.specs.declared.MendError.TheVariants.{BadSetup, BadRecord, ShortList}
 
 -- trials that are a run of low ones, with as many starts left
 abbrev pub low_ones : ℕ → ℕ
@@ -54,25 +55,25 @@ abbrev pub mended_to : ℕ → List ℕ → List ℕ → Mending
 mended_to capacity meta list =
     leaves 0 (changed meta (mended capacity meta)) (mended capacity meta) (sets list 0 (changes 0 meta (mended capacity meta)))
 
--- the answer's refusal and count
-abbrev pub refusal_in : Mended → ℕ
-refusal_in (Mended.Done count) = 0
-refusal_in Mended.BadSetup = 10
-refusal_in Mended.BadRecord = 13
-refusal_in Mended.ShortList = 27
+-- a refusal by its number
+abbrev pub error_number : MendError → ℕ
+error_number BadSetup = 10
+error_number BadRecord = 13
+error_number ShortList = 27
 
-abbrev pub count_in : Mended → ℕ
-count_in (Mended.Done count) = count
-count_in Mended.BadSetup = 0
-count_in Mended.BadRecord = 0
-count_in Mended.ShortList = 0
+-- the answer's refusal and count
+abbrev pub refusal_in : Result ℕ MendError → ℕ
+refusal_in (Ok count) = 0
+refusal_in (Err e) = error_number e
+
+abbrev pub count_in : Result ℕ MendError → ℕ
+count_in (Ok count) = count
+count_in (Err e) = 0
 
 -- both in one number, as C has them: no count is as high as 10
-abbrev pub mend_number : Mended → ℕ
-mend_number (Mended.Done count) = count
-mend_number Mended.BadSetup = 10
-mend_number Mended.BadRecord = 13
-mend_number Mended.ShortList = 27
+abbrev pub mend_number : Result ℕ MendError → ℕ
+mend_number (Ok count) = count
+mend_number (Err e) = error_number e
 
 -- BadSetup, BadRecord, too short a list; else the record is mended
 unfoldable pub mend_of : ℕ → Setup → List ℕ → List ℕ → Mending

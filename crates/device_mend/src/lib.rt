@@ -2,13 +2,13 @@
 
 #![tactic(auto)]
 
-ghost use Rattle.std.specs.Prelude.{◌≡◌, [], ◌∷◌, ℕ, ◌-◌, ◌*◌, ◌^◌, ◌<◌, length, replicate};
+ghost use Rattle.std.specs.Prelude.{◌≡◌, [], ◌∷◌, ℕ, ◌-◌, ◌*◌, ◌^◌, ◌<◌, replicate};
 ghost use Rattle.std.proofs.lemmas.List.Edits.{sets};
 ghost use Rattle.device_mend.specs.Mend.{low_ones, missized, mended, changes, changed, leaves, mended_to, refusal_in, count_in, mend_number, mend_of};
 
 use device_early::is_sizeless;
 use device_state::{Setup, refusal};
-use store_flash::cells::{lay, put};
+use store_flash::cells::put;
 use store_record::boot_meta_store;
 use store_record::boot_meta_store::starts_left;
 use store_record::rewrite::{RECORD, Record};
@@ -22,24 +22,23 @@ pub const ENTRIES: usize = 12;
 
 const LIST: usize = ENTRY * ENTRIES;
 
-// What a mend says: how many bytes it has changed, each with its entry; or the refusal, and nothing has changed.
-#[derive(Clone, Copy)]
-pub enum Mended {
-    Done { count: u8 },
+// Why nothing is mended: neither record nor list has changed.
+#[derive(Clone, Copy, Debug, PartialEq, Eq)]
+pub enum MendError {
     BadSetup,
     BadRecord,
     ShortList,
 }
 
-// Both in one number: no count is as high as a refusal's.
-pub fn mend_number(mended: Mended) -> u8
+// How many bytes were mended, or the refusal, in one number: no count is as high as a refusal's.
+pub fn mend_number(mended: Result<u8, MendError>) -> u8
     ensures { result ≡ mend_number mended }
 {
     match mended {
-        Mended::Done { count } => count,
-        Mended::BadSetup => 10,
-        Mended::BadRecord => 13,
-        Mended::ShortList => 27,
+        Ok(count) => count,
+        Err(MendError::BadSetup) => 10,
+        Err(MendError::BadRecord) => 13,
+        Err(MendError::ShortList) => 27,
     }
 }
 
@@ -66,10 +65,7 @@ fn low_ones(trials: u8) -> u8
 fn is_missized(capacity: usize, meta: &[u8]) -> bool
     ensures { result ≡ missized capacity meta.now }
 {
-    if boot_meta_store::app_checksum(meta) == 0xFFFF {
-        return false;
-    }
-    is_sizeless(capacity, meta)
+    boot_meta_store::app_checksum(meta) != 0xFFFF && is_sizeless(capacity, meta)
 }
 
 // The record with no image: Updating, no checksum, no size.
@@ -128,40 +124,29 @@ fn list_changes(old: Record, new: Record, list: &mut [u8]) -> u8
     n as u8
 }
 
-fn copied(meta: &[u8]) -> Record
-    requires { length meta.now ≡ 12 }
-    ensures { result ≡ meta.now }
-{
-    let mut record = [0xFFu8; RECORD];
-    lay(&mut record, meta);
-    record
-}
-
-fn mend_record(capacity: usize, meta: &mut [u8], list: &mut [u8]) -> u8
-    requires { length meta.old ≡ 12 }
+fn mend_record(capacity: usize, meta: &mut Record, list: &mut [u8]) -> u8
     ensures { leaves 0 result meta.new list.new ≡ mended_to capacity meta.old list.old }
 {
-    let old = copied(meta);
+    let old = *meta;
     let new = as_mended(capacity, old);
-    lay(meta, &new);
+    *meta = new;
     list_changes(old, new, list)
 }
 
-// Mends the record, and lists each byte that it has changed by place, old and new. What the list has past these entries stays.
-pub fn mend(setup: Setup, meta: &mut [u8], list: &mut [u8]) -> Mended
+// Mends the record, lists each byte that it has changed by place, old and new, and says how many these are. What the list has past them stays.
+#[tactic(auto, unfolding(crate::specs::Mend::mend_of))]
+pub fn mend(setup: Setup, meta: &mut [u8], list: &mut [u8]) -> Result<u8, MendError>
     ensures { leaves (refusal_in result) (count_in result) meta.new list.new ≡ mend_of 64 setup meta.old list.old }
 {
     let capacity = setup.capacity;
-    let good = refusal::set_up(setup);
-    if !good {
-        return Mended::BadSetup;
+    if !refusal::set_up(setup) {
+        return Err(MendError::BadSetup);
     }
-    if meta.len() != RECORD {
-        return Mended::BadRecord;
-    }
+    let Some(record) = meta.as_mut_array::<RECORD>() else {
+        return Err(MendError::BadRecord);
+    };
     if list.len() < LIST {
-        return Mended::ShortList;
+        return Err(MendError::ShortList);
     }
-    let count = mend_record(capacity, meta, list);
-    Mended::Done { count: count }
+    Ok(mend_record(capacity, record, list))
 }

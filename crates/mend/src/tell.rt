@@ -2,7 +2,7 @@
 use crate::line::Line;
 use crate::show;
 use device_early::{Outlook, early};
-use device_mend::{Mended, mend, mend_number};
+use device_mend::{MendError, mend, mend_number};
 use device_state::{CAREFUL, PRESENT, Setup};
 use std::io;
 use std::io::Write;
@@ -127,8 +127,8 @@ fn done(out: &mut impl Write, setup: Setup, count: u8, meta: &[u8], list: &[u8])
 }
 
 // A refusal: of the setup, since record and list have the right lengths here.
-fn refused(out: &mut impl Write, said: Mended) -> io::Result<()> {
-    let number = mend_number(said);
+fn refused(out: &mut impl Write, why: MendError) -> io::Result<()> {
+    let number = mend_number(Err(why));
     writeln!(out, "not mended: no good setup ({number})")
 }
 
@@ -143,9 +143,8 @@ pub(crate) fn mended(
     let mut list = [0u8; 36];
     lay(&mut meta, bytes);
     which(out, number)?;
-    let said = mend(setup, &mut meta, &mut list);
-    match said {
-        Mended::Done { count } => done(out, setup, count, &meta, &list),
-        _ => refused(out, said),
+    match mend(setup, &mut meta, &mut list) {
+        Ok(count) => done(out, setup, count, &meta, &list),
+        Err(why) => refused(out, why),
     }
 }

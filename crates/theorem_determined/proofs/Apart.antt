@@ -26,7 +26,7 @@ use Rattle.device_state.proofs.Told.{refusal_some}
 use Rattle.device_early.specs.declared.Outlook.{Outlook}
 use Rattle.device_early.specs.declared.EarlyError.{EarlyError}
 use Rattle.device_early.specs.Early.{outlook_number}
-use Rattle.device_mend.specs.declared.Mended.{Mended}
+use Rattle.device_mend.specs.declared.MendError.{MendError}
 use Rattle.device_mend.specs.Mend.{refusal_in, count_in}
 use Rattle.device_turns.specs.declared.Silence.{Silence}
 use Rattle.device_turns.specs.Turns.{why_number}
@@ -185,14 +185,15 @@ position_back (Err e) = refl
 pub position_apart : (a b : Result ℕ BadRecord) → position_told a ≡ position_told b → a ≡ b
 position_apart = apart position_told position_from position_back
 
-abbrev mended_from : ℕ → ℕ → Mended
-mended_from n count = pick (eqb n 0) (Mended.Done count) (pick (eqb n 10) Mended.BadSetup (pick (eqb n 13) Mended.BadRecord Mended.ShortList))
+abbrev mended_from : ℕ → ℕ → Result ℕ MendError
+mended_from n count =
+    pick (eqb n 0) (Ok count) (pick (eqb n 10) (Err MendError.BadSetup) (pick (eqb n 13) (Err MendError.BadRecord) (Err MendError.ShortList)))
 
-mended_back : (m : Mended) → mended_from (refusal_in m) (count_in m) ≡ m
-mended_back (Mended.Done count) = refl
-mended_back Mended.BadSetup = refl
-mended_back Mended.BadRecord = refl
-mended_back Mended.ShortList = refl
+mended_back : (m : Result ℕ MendError) → mended_from (refusal_in m) (count_in m) ≡ m
+mended_back (Ok count) = refl
+mended_back (Err MendError.BadSetup) = refl
+mended_back (Err MendError.BadRecord) = refl
+mended_back (Err MendError.ShortList) = refl
 
-pub mended_apart : (a b : Mended) → refusal_in a ≡ refusal_in b → count_in a ≡ count_in b → a ≡ b
+pub mended_apart : (a b : Result ℕ MendError) → refusal_in a ≡ refusal_in b → count_in a ≡ count_in b → a ≡ b
 mended_apart a b e f = sym (mended_back a) ∙ ap₂ mended_from e f ∙ mended_back b

@@ -4,19 +4,20 @@ use mathlib.Core.List.{List}
 use borrow.Author.Tests.{eqb-true}
 use lib.Dec.{eqb}
 use Rattle.laws.specs.Pick.{pick}
-use Rattle.device_mend.specs.declared.Mended.{Mended}
+use Rattle.std.specs.Prelude.{Result, Ok, Err}
+use Rattle.device_mend.specs.declared.MendError.{MendError}
 use Rattle.device_mend.specs.Mend.{Mending, refusal_in, count_in, leaves, mend_number}
 use Rattle.tinyboot_c.specs.Calls.{after_mend, mend_called, c_mended}
 use Rattle.tinyboot_c.proofs.tinyboot_mend.Goals as goal
 
 -- the answer's one number is its refusal or its count
-in_one : (m : Mended) → mend_number m ≡ pick (eqb (refusal_in m) 0) (count_in m) (refusal_in m)
-in_one (Mended.Done count) = refl
-in_one Mended.BadSetup = refl
-in_one Mended.BadRecord = refl
-in_one Mended.ShortList = refl
+in_one : (m : Result ℕ MendError) → mend_number m ≡ pick (eqb (refusal_in m) 0) (count_in m) (refusal_in m)
+in_one (Ok count) = refl
+in_one (Err MendError.BadSetup) = refl
+in_one (Err MendError.BadRecord) = refl
+in_one (Err MendError.ShortList) = refl
 
-called : (m : Mended) (meta list : List ℕ) (r : ℕ) → r ≡ mend_number m → (x : Mending) → leaves (refusal_in m) (count_in m) meta list ≡ x →
+called : (m : Result ℕ MendError) (meta list : List ℕ) (r : ℕ) → r ≡ mend_number m → (x : Mending) → leaves (refusal_in m) (count_in m) meta list ≡ x →
     after_mend r meta list ≡ mend_called x
 called m meta list r e x k = ap (λ (n : ℕ). after_mend n meta list) (e ∙ in_one m) ∙ ap mend_called k
 
