@@ -1,26 +1,23 @@
 // The app that runs: what the wire brings is put to it, over the bench's setup, record and room. The bench keeps its frame and its numbers in the place of the
 // bootloader's, which a start makes anew.
-use crate::module;
-use crate::module::Bench;
+use crate::module::{Bench, lend};
 use app_client::app_feed_in;
 use app_state::{AppNumbers, AppSetup, app_new};
 use device_feed::Passed;
-use device_state::Numbers;
+use device_state::{Numbers, Setup};
 use store_flash::storage::NONE_PENDING;
-use wire_frames::frame::FrameBytes;
 
 // The kind of start is not the app's.
-fn setup_of(bench: &Bench) -> AppSetup {
-    let s = bench.setup;
+fn setup_of(s: Setup, app_version: u16) -> AppSetup {
     let id = s.id;
     AppSetup {
         erase_size: s.erase_size,
         capacity: s.capacity,
-        id: id,
+        id,
         id_len: s.id_len,
         version: s.version,
         key: s.key,
-        app_version: bench.app_version,
+        app_version,
     }
 }
 
@@ -43,42 +40,30 @@ fn numbers_of(n: Numbers) -> AppNumbers {
     }
 }
 
-// From now on the app runs, with a new state.
-pub(crate) fn begin(bench: &mut Bench, version: u16, f: &mut FrameBytes) {
-    let state = app_new();
-    let bytes = state.frame;
-    let n = state.numbers;
-    *f = bytes;
-    bench.numbers = kept(n);
-    bench.runs = true;
-    bench.app_version = version;
-}
+impl Bench {
+    // The line `a`: from now on the app runs, with a new state.
+    pub fn run_app(&mut self, version: u16) {
+        let state = app_new();
+        let frame = state.frame;
+        self.frame = frame;
+        self.numbers = kept(state.numbers);
+        self.app = Some(version);
+    }
 
-// The call, on what is lent.
-pub(crate) fn fed(
-    bench: &Bench,
-    bytes: &[u8],
-    f: &mut FrameBytes,
-    meta: &mut [u8],
-    room: &mut [u8],
-) -> Passed {
-    let setup = setup_of(bench);
-    let n = numbers_of(bench.numbers);
-    let meta_len = module::lent(bench.record, meta);
-    let room_len = module::lent(bench.room, room);
-    let p = app_feed_in(
-        setup,
-        n,
-        f,
-        bytes,
-        &mut meta[..meta_len],
-        &mut room[..room_len],
-    );
-    let after = p.numbers;
-    let answer = p.answer;
-    Passed {
-        numbers: kept(after),
-        taken: p.taken,
-        answer: answer,
+    // The call, on what is lent.
+    pub fn app_fed(&mut self, version: u16, bytes: &[u8]) -> Passed {
+        let p = app_feed_in(
+            setup_of(self.setup, version),
+            numbers_of(self.numbers),
+            &mut self.frame,
+            bytes,
+            lend(&mut self.record, self.lent.record),
+            lend(&mut self.room, self.lent.room),
+        );
+        Passed {
+            numbers: kept(p.numbers),
+            taken: p.taken,
+            answer: p.answer,
+        }
     }
 }

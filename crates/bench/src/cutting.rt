@@ -1,20 +1,13 @@
 // A rewrite of the record that is cut, as when the plug is pulled.
-use crate::module;
-use crate::module::Bench;
-use store_flash::cells::{byte_at, lay};
-use store_record::rewrite::{RECORD, Record, rewrite_steps};
+use crate::module::{Bench, lend};
+use store_flash::cells::lay;
+use store_record::rewrite::{RECORD, rewrite_steps};
 
-// The new record, behind the line's first byte.
-fn new_record(bytes: &[u8]) -> Record {
-    let mut new = [0xFFu8; RECORD];
-    lay(&mut new, module::after(bytes, 1));
-    new
-}
-
-// Its first so many steps, on what is lent of the record.
-pub(crate) fn cut(bench: &mut Bench, bytes: &[u8]) {
-    let mut meta = bench.meta;
-    let n = module::lent(bench.record, &meta);
-    rewrite_steps(&mut meta[..n], new_record(bytes), byte_at(bytes, 0));
-    bench.meta = meta;
+impl Bench {
+    // The line `j`: the first so many steps, on what is lent of the record.
+    pub fn cut(&mut self, bytes: &[u8], steps: u8) {
+        let mut new = [0xFF; RECORD];
+        lay(&mut new, bytes);
+        rewrite_steps(lend(&mut self.record, self.lent.record), new, steps);
+    }
 }

@@ -1,9 +1,12 @@
 // What a line may carry.
-ghost use Rattle.std.specs.Prelude.{◌≡◌, ℕ, ◌+◌, ◌-◌, leb};
+ghost use Rattle.std.specs.Prelude.{◌≡◌, ℕ, ◌+◌, is_ok, leb};
 ghost use Rattle.bench.specs.Digits.{between};
 ghost use Rattle.bench.specs.Limits.{carried, counted, settable, within, allowed};
+ghost use Rattle.bench.specs.Orders.{letter_of};
 
+use crate::fault::Fault;
 use crate::numbers;
+use crate::order::Order;
 use store_flash::cells::byte_at;
 use store_record::rewrite::STEPS;
 use wire_frames::frame::FRAME;
@@ -16,28 +19,23 @@ pub const RECORD: usize = 16;
 pub const ROOM: usize = 512;
 
 // The entries that a list for a mend may have.
-pub const MOST_ENTRIES: u8 = 16;
+pub const MOST_ENTRIES: usize = 16;
 
-// The last command that there is.
-pub const LAST_COMMAND: u8 = 5;
+// The last mode, rate and command that there is.
+const LAST_MODE: u8 = 1;
+
+const LAST_RATE: u8 = 13;
+
+const LAST_COMMAND: u8 = 5;
 
 // The bytes of a line, and the characters of a text.
 pub const LINE: usize = 4096;
 
-fn is_between(least: usize, most: usize, n: usize) -> bool
-    ensures { result ≡ between least most n }
-{
-    if least <= n {
-        return n <= most;
-    }
-    false
-}
-
 // From how many bytes to how many a line has.
-#[derive(Drop)]
-pub struct Count {
-    pub least: usize,
-    pub most: usize,
+#[derive(Clone, Copy)]
+struct Count {
+    least: usize,
+    most: usize,
 }
 
 fn from_to(least: usize, most: usize) -> Count
@@ -46,122 +44,133 @@ fn from_to(least: usize, most: usize) -> Count
     Count { least, most }
 }
 
-// How many bytes a line of this letter may have: where there is no such letter from 1 to 0, which no line has.
 #[tactic(auto, unfolding(crate::specs::Limits::carried))]
-pub(crate) fn count_of(letter: u8) -> Count
-    ensures { (n : ℕ) → between result.least result.most n ≡ carried letter n }
+fn count_of(order: Order) -> Count
+    ensures { (n : ℕ) → between result.least result.most n ≡ carried (letter_of order) n }
 {
-    match letter {
-        b's' => from_to(31, 32),
-        b'n' => from_to(4, 4),
-        b'c' => from_to(1, 1),
-        b'm' => from_to(2, 2),
-        b'f' => from_to(4, LINE),
-        b'r' => from_to(1, 12),
-        b'p' => from_to(5, 5),
-        b'q' => from_to(1, LINE),
-        b'b' => from_to(1, 1),
-        b'x' => from_to(0, LINE),
-        b'o' => from_to(0, LINE),
-        b'd' => from_to(0, 0),
-        b't' => from_to(0, LINE),
-        b'j' => from_to(13, 13),
-        b'e' => from_to(1, 1),
-        b'a' => from_to(2, 2),
-        b'k' => from_to(0, 0),
-        b'g' => from_to(1, 1),
-        b'y' => from_to(1, 1),
-        b'v' => from_to(1, 1),
-        b'w' => from_to(6, LINE),
-        b'h' => from_to(0, LINE),
-        b'u' => from_to(6, LINE),
-        _ => from_to(1, 0),
+    match order {
+        Order::NewBench => from_to(31, 32),
+        Order::LendFlash => from_to(4, 4),
+        Order::LendRecord => from_to(1, 1),
+        Order::LendRoom => from_to(2, 2),
+        Order::StoreFlash => from_to(4, LINE),
+        Order::StoreRecord => from_to(1, 12),
+        Order::SetNumber => from_to(5, 5),
+        Order::StoreFrame => from_to(1, LINE),
+        Order::Start => from_to(1, 1),
+        Order::Feed => from_to(0, LINE),
+        Order::FeedOnce => from_to(0, LINE),
+        Order::Show => from_to(0, 0),
+        Order::Text => from_to(0, LINE),
+        Order::Cut => from_to(13, 13),
+        Order::Early => from_to(1, 1),
+        Order::RunApp => from_to(2, 2),
+        Order::Confirm => from_to(0, 0),
+        Order::StoreRate => from_to(1, 1),
+        Order::ReadRate => from_to(1, 1),
+        Order::Mend => from_to(1, 1),
+        Order::Write => from_to(6, LINE),
+        Order::Hear => from_to(0, LINE),
+        Order::Ask => from_to(6, LINE),
     }
 }
 
-fn carries(letter: u8, n: usize) -> bool
-    ensures { result ≡ carried letter n }
-{
-    let c = count_of(letter);
-    is_between(c.least, c.most, n)
+impl Count {
+    fn admit(self, n: usize) -> Result<(), Fault>
+        ensures { is_ok result ≡ between self.least self.most n }
+    {
+        if n < self.least {
+            return Err(Fault::TooFew);
+        }
+        if self.most < n {
+            return Err(Fault::TooMany);
+        }
+        Ok(())
+    }
 }
 
-// What is left of n past the first so many.
-fn past(n: usize, head: usize) -> usize
-    ensures { result ≡ n - head }
+fn at_most(n: usize, most: usize, fault: Fault) -> Result<(), Fault>
+    ensures { is_ok result ≡ leb n most }
 {
-    if head <= n {
-        return n - head;
-    }
-    0
+    if n <= most { Ok(()) } else { Err(fault) }
 }
 
-// Whether n bytes from a place on end within so many.
-fn has_room(at: usize, n: usize, most: usize) -> bool
-    ensures { result ≡ leb (at + n) most }
+fn no_more(n: usize, most: usize) -> Result<(), Fault>
+    ensures { is_ok result ≡ leb n most }
 {
-    if at <= most {
-        return n <= most - at;
-    }
-    false
+    at_most(n, most, Fault::MoreThan(most))
 }
 
-// Whether there is such a number: an app keeps but the first of three.
-fn is_counted(runs: bool, field: u8) -> bool
-    ensures { result ≡ counted runs field }
+// One of the numbers from 0 on, or there is none such.
+fn known(n: u8, last: u8, fault: Fault) -> Result<(), Fault>
+    ensures { is_ok result ≡ leb n last }
 {
-    if runs {
-        return field == 0;
-    }
-    true
+    at_most(n as usize, last as usize, fault)
 }
 
-// A number is never cut to a flag.
-fn is_settable(runs: bool, field: u8, value: u32) -> bool
-    ensures { result ≡ settable runs field value }
+// So many bytes from a place on end before the buffer does.
+fn ends(at: usize, n: usize, end: usize) -> Result<(), Fault>
+    ensures { is_ok result ≡ leb (at + n) end }
 {
-    if field < 3 {
-        return is_counted(runs, field);
+    if at <= end && n <= end - at {
+        return Ok(());
     }
-    if field <= 4 {
-        return value <= 1;
+    Err(Fault::PastByte(end))
+}
+
+// A number of the state, of which an app keeps but the first of three. A value is never cut to a flag.
+fn fits(runs: bool, field: u8, value: u32) -> Result<(), Fault>
+    ensures { is_ok result ≡ settable runs field value }
+{
+    match field {
+        0 => Ok(()),
+        1 | 2 => if runs {
+            Err(Fault::NoSuchField)
+        } else {
+            Ok(())
+        },
+        3 | 4 => no_more(value as usize, 1),
+        _ => Err(Fault::NoSuchField),
     }
-    false
 }
 
 #[tactic(auto, unfolding(crate::specs::Limits::within))]
-fn is_within(runs: bool, letter: u8, bytes: &[u8]) -> bool
-    ensures { result ≡ within runs letter bytes.now }
+fn numbers_fit(runs: bool, order: Order, bytes: &[u8]) -> Result<(), Fault>
+    ensures { is_ok result ≡ within runs (letter_of order) bytes.now }
 {
-    match letter {
-        b'n' => numbers::four(bytes, 0) as usize <= FLASH,
-        b'c' => byte_at(bytes, 0) as usize <= RECORD,
-        b'm' => numbers::two(bytes, 0) as usize <= ROOM,
-        b'f' => has_room(
+    match order {
+        Order::LendFlash => no_more(numbers::four(bytes, 0) as usize, FLASH),
+        Order::LendRecord => no_more(byte_at(bytes, 0) as usize, RECORD),
+        Order::LendRoom => no_more(numbers::two(bytes, 0) as usize, ROOM),
+        Order::StoreFlash => ends(
             numbers::four(bytes, 0) as usize,
-            past(bytes.len(), 4),
+            bytes.len().saturating_sub(4),
             FLASH,
         ),
-        b'p' => is_settable(runs, byte_at(bytes, 0), numbers::four(bytes, 1)),
-        b'q' => has_room(byte_at(bytes, 0) as usize, past(bytes.len(), 1), FRAME),
-        b'b' => byte_at(bytes, 0) <= 1,
-        b'j' => byte_at(bytes, 0) <= STEPS,
-        b'e' => byte_at(bytes, 0) <= 1,
-        b'g' => byte_at(bytes, 0) <= 13,
-        b'y' => byte_at(bytes, 0) <= 13,
-        b'v' => byte_at(bytes, 0) <= MOST_ENTRIES,
-        b'w' => byte_at(bytes, 0) <= LAST_COMMAND,
-        b'u' => byte_at(bytes, 0) <= LAST_COMMAND,
-        _ => true,
+        Order::SetNumber => fits(runs, byte_at(bytes, 0), numbers::four(bytes, 1)),
+        Order::StoreFrame => ends(
+            byte_at(bytes, 0) as usize,
+            bytes.len().saturating_sub(1),
+            FRAME,
+        ),
+        Order::Start => known(byte_at(bytes, 0), LAST_MODE, Fault::NoSuchMode),
+        Order::Cut => no_more(byte_at(bytes, 0) as usize, STEPS as usize),
+        Order::Early => known(byte_at(bytes, 0), LAST_MODE, Fault::NoSuchMode),
+        Order::StoreRate => known(byte_at(bytes, 0), LAST_RATE, Fault::NoSuchRate),
+        Order::ReadRate => known(byte_at(bytes, 0), LAST_RATE, Fault::NoSuchRate),
+        Order::Mend => no_more(byte_at(bytes, 0) as usize, MOST_ENTRIES),
+        Order::Write => known(byte_at(bytes, 0), LAST_COMMAND, Fault::NoSuchCommand),
+        Order::Ask => known(byte_at(bytes, 0), LAST_COMMAND, Fault::NoSuchCommand),
+        _ => Ok(()),
     }
 }
 
-// Whether this is a line of the script, where the app runs or does not.
-pub(crate) fn is_allowed(runs: bool, letter: u8, bytes: &[u8]) -> bool
-    ensures { result ≡ allowed runs letter bytes.now }
+// What a line of this letter and these bytes asks for, where the app runs or does not.
+pub(crate) fn order_of(runs: bool, letter: u8, bytes: &[u8]) -> Result<Order, Fault>
+    ensures { is_ok result ≡ allowed runs letter bytes.now }
 {
-    if carries(letter, bytes.len()) {
-        return is_within(runs, letter, bytes);
-    }
-    false
+    let order = Order::from_letter(letter).ok_or(Fault::NoSuchLetter)?;
+    count_of(order).admit(bytes.len())?;
+    numbers_fit(runs, order, bytes)?;
+    Ok(order)
 }

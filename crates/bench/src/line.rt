@@ -1,45 +1,47 @@
 // One line of the script, character by character. Blanks and comments are passed over and never kept, so they may be of any length.
-ghost use Rattle.std.specs.Prelude.{◌≤◌, length};
+use crate::fault::Fault;
+use crate::limits::LINE;
+use crate::order::Order;
+use crate::{digits, limits};
+use arrayvec::ArrayVec;
+use std::io;
+use std::io::{BufRead, BufReader, Read};
+use store_flash::cells::first;
 
-use crate::digits;
-
-// As far as the line has been read. `bytes`, lent beside it, holds what it carries.
-#[derive(Clone, Copy)]
+// As far as the line has been read.
+#[derive(Drop)]
 pub struct Line {
     // Which line of the script it is.
     pub number: u64,
-    // A blank while there is none.
-    pub letter: u8,
-    // The bytes that count; of a text, its characters up to the last that is no blank.
-    pub len: usize,
-    // Of a text: the place of the next character.
-    at: usize,
-    // The first digit of a pair, or NONE between pairs.
-    high: u8,
+    // None while there is nothing on it but blanks.
+    letter: Option<u8>,
+    // The bytes that it carries; of a text, its characters.
+    bytes: ArrayVec<u8, LINE>,
+    // How many of them count: of a text, those up to the last that is no blank.
+    len: usize,
+    // The first digit of a pair.
+    high: Option<u8>,
     comment: bool,
     // A CR that may turn out to stand before the line's end.
     cr: bool,
     // A character that is no digit.
-    pub strange: bool,
-    // More than `bytes` holds.
-    pub long: bool,
+    strange: bool,
+    // More than a line carries.
+    long: bool,
 }
 
 fn is_blank(c: u8) -> bool {
-    match c {
-        b' ' | b'\t' => true,
-        _ => false,
-    }
+    matches!(c, b' ' | b'\t')
 }
 
 impl Line {
-    pub fn new(number: u64) -> Line {
+    pub fn new() -> Line {
         Line {
-            number: number,
-            letter: b' ',
+            number: 0,
+            letter: None,
+            bytes: ArrayVec::new(),
             len: 0,
-            at: 0,
-            high: digits::NONE,
+            high: None,
             comment: false,
             cr: false,
             strange: false,
@@ -47,132 +49,137 @@ impl Line {
         }
     }
 
-    pub fn is_empty(self) -> bool {
-        is_blank(self.letter)
+    // The line of this number, of which nothing has been read.
+    fn begin(&mut self, number: u64) {
+        self.number = number;
+        self.letter = None;
+        self.bytes.clear();
+        self.len = 0;
+        self.high = None;
+        self.comment = false;
+        self.cr = false;
+        self.strange = false;
+        self.long = false;
     }
 
-    pub fn is_half(self) -> bool {
-        self.high < digits::NONE
+    // The bytes that count.
+    pub fn carried(&self) -> &[u8] {
+        first(&self.bytes, self.len)
     }
 
-    // A line with half a byte is as bad as one with a character that is none of its own.
-    pub fn is_bad(self) -> bool {
-        if self.strange || self.long {
-            return true;
+    // What was wrong with its characters.
+    fn spoilt(&self) -> Option<Fault> {
+        if self.strange {
+            return Some(Fault::NoDigit);
         }
-        self.is_half()
+        if self.high.is_some() {
+            return Some(Fault::HalfAByte);
+        }
+        if self.long {
+            return Some(Fault::TooMany);
+        }
+        None
     }
 
-    // A text keeps the blanks inside it. What stands past the buffer's end is too much only if it is no blank.
-    fn text(mut self, c: u8, bytes: &mut [u8]) -> Line {
-        let at = self.at;
-        if is_blank(c) {
-            if at == 0 {
-                return self;
+    // What the line asks for, where the app runs or does not: None on an empty line.
+    pub fn order(&self, runs: bool) -> Option<Result<Order, Fault>> {
+        let letter = self.letter?;
+        match limits::order_of(runs, letter, self.carried()) {
+            Err(Fault::NoSuchLetter) => Some(Err(Fault::NoSuchLetter)),
+            order => match self.spoilt() {
+                Some(fault) => Some(Err(fault)),
+                None => Some(order),
+            },
+        }
+    }
+
+    // A text keeps the blanks inside it. What stands past its last place is too much only if it is no blank.
+    fn text(&mut self, c: u8) {
+        let blank = is_blank(c);
+        if blank && self.bytes.is_empty() {
+            return;
+        }
+        let fits = self.bytes.try_push(c).is_ok();
+        if blank {
+            return;
+        }
+        if fits {
+            self.len = self.bytes.len();
+        } else {
+            self.long = true;
+        }
+    }
+
+    fn digit(&mut self, c: u8) {
+        match (digits::value(c), self.high) {
+            (None, _) => self.strange = true,
+            (Some(d), None) => self.high = Some(d),
+            (Some(d), Some(high)) => {
+                self.high = None;
+                if self.bytes.try_push(high << 4 | d).is_err() {
+                    self.long = true;
+                }
+                self.len = self.bytes.len();
             }
         }
-        if bytes.len() <= at {
-            self.long = self.long || !is_blank(c);
-            return self;
-        }
-        bytes[at] = c;
-        self.at = at + 1;
-        if !is_blank(c) {
-            self.len = at + 1;
-        }
-        self
-    }
-
-    fn digit(mut self, c: u8, bytes: &mut [u8]) -> Line {
-        let d = digits::value(c);
-        let high = self.high;
-        let len = self.len;
-        if digits::NONE <= d {
-            self.strange = true;
-            return self;
-        }
-        if digits::NONE <= high {
-            self.high = d;
-            return self;
-        }
-        self.high = digits::NONE;
-        if bytes.len() <= len {
-            self.long = true;
-            return self;
-        }
-        bytes[len] = digits::byte(high, d);
-        self.len = len + 1;
-        self
     }
 
     // A character that is no CR before the line's end.
-    fn step(mut self, c: u8, bytes: &mut [u8]) -> Line {
+    fn step(&mut self, c: u8) {
         if self.comment {
-            return self;
+            return;
         }
         if c == b'#' {
             self.comment = true;
-            return self;
+            return;
         }
-        if self.letter == b't' {
-            return self.text(c, bytes);
+        match self.letter {
+            Some(b't') => self.text(c),
+            _ if is_blank(c) => {}
+            None => self.letter = Some(c),
+            Some(_) => self.digit(c),
         }
-        if is_blank(c) {
-            return self;
-        }
-        if is_blank(self.letter) {
-            self.letter = c;
-            return self;
-        }
-        self.digit(c, bytes)
     }
 
-    // A CR that has waited does not stand before the line's end after all.
-    fn settled(mut self, bytes: &mut [u8]) -> Line {
+    // One character more. A CR waits for the next one, and if there is one, does not stand before the line's end.
+    fn read(&mut self, c: u8) {
         if self.cr {
             self.cr = false;
-            return self.step(b'\r', bytes);
+            self.step(b'\r');
         }
-        self
-    }
-
-    // One character more. A CR waits for the next one.
-    fn read(self, c: u8, bytes: &mut [u8]) -> Line {
-        let mut line = self.settled(bytes);
         if c == b'\r' {
-            line.cr = true;
-            return line;
+            self.cr = true;
+        } else {
+            self.step(c);
         }
-        line.step(c, bytes)
     }
-}
 
-// What a part of the input has brought: how much of it is used up, and whether the line has ended.
-#[derive(Drop)]
-pub struct Scanned {
-    pub line: Line,
-    pub taken: usize,
-    pub ended: bool,
-}
-
-// A part of the input, up to the line's end if it is there.
-pub(crate) fn scan(line: Line, part: &[u8], bytes: &mut [u8]) -> Scanned
-    ensures { result.taken ≤ length part.now }
-{
-    let mut line = line;
-    for (i, c) in part.iter().enumerate() {
-        if *c == b'\n' {
-            return Scanned {
-                line,
-                taken: i + 1,
-                ended: true,
-            };
+    // A part of the input, up to the line's end if it is there: how much of it is used up, and whether the line has ended.
+    fn scan(&mut self, part: &[u8]) -> (usize, bool) {
+        for (i, c) in part.iter().enumerate() {
+            if *c == b'\n' {
+                return (i + 1, true);
+            }
+            self.read(*c);
         }
-        line = line.read(*c, bytes);
+        (part.len(), false)
     }
-    Scanned {
-        line,
-        taken: part.len(),
-        ended: false,
+
+    // The next line, and whether it is the last. A proved loop has to end, and a line may be of any length, so the reads are counted up to a number that no
+    // run comes to.
+    pub fn next<R: Read>(&mut self, number: u64, input: &mut BufReader<R>) -> io::Result<bool> {
+        self.begin(number);
+        for _ in 0..u64::MAX {
+            let part = input.fill_buf()?;
+            if part.is_empty() {
+                break;
+            }
+            let (taken, ended) = self.scan(part);
+            input.consume(taken);
+            if ended {
+                return Ok(false);
+            }
+        }
+        Ok(true)
     }
 }

@@ -1,235 +1,76 @@
 // The script: a line is read whole before it acts.
-ghost use Rattle.std.specs.Prelude.{◌≡◌, ◌≤◌, ◌<◌, ◌+◌, ◌^◌, length, IfOk};
-
 use crate::line::Line;
-use crate::module::Bench;
-use crate::{
-    app, asking, cutting, dump, early, feeding, hearing, input, limits, mending, module, numbers,
-    rates, show, starting, words, writing,
-};
+use crate::module::{Bench, after, poke, setup_of};
+use crate::order::Order;
+use crate::{hearing, numbers, rates, starting};
 use std::io;
-use std::io::{Read, Write};
-use store_flash::cells::{byte_at, first, lay};
-use store_flash::storage::Page;
-use wire_frames::frame::FrameBytes;
+use std::io::{BufReader, Read, Write};
+use store_flash::cells::{byte_at, lay};
 
-// A line that is none: its number, and why.
-fn refuse(out: &mut impl Write, line: Line, bytes: &[u8]) -> io::Result<()> {
-    show::byte(out, b'?')?;
-    show::next_decimal(out, line.number)?;
-    show::byte(out, b' ')?;
-    words::why(out, line, bytes)?;
-    show::byte(out, b'\n')
-}
+impl Bench {
+    // A line of the script, within its limits.
+    fn act(&mut self, order: Order, bytes: &[u8], out: &mut impl Write) -> io::Result<()> {
+        match order {
+            Order::NewBench => self.renew(setup_of(bytes)),
+            Order::LendFlash => self.lent.flash = numbers::four(bytes, 0) as usize,
+            Order::LendRecord => self.lent.record = byte_at(bytes, 0) as usize,
+            Order::LendRoom => self.lent.room = numbers::two(bytes, 0) as usize,
+            Order::StoreFlash => poke(
+                &mut self.flash,
+                numbers::four(bytes, 0) as usize,
+                after(bytes, 4),
+            ),
+            Order::StoreRecord => lay(&mut self.record, bytes),
+            Order::SetNumber => self.set(byte_at(bytes, 0), numbers::four(bytes, 1)),
+            Order::StoreFrame => poke(&mut self.frame, byte_at(bytes, 0) as usize, after(bytes, 1)),
+            Order::Start => self.start(starting::mode_of(byte_at(bytes, 0)), out)?,
+            Order::Feed => self.feed(bytes, out)?,
+            Order::FeedOnce => self.feed_once(bytes, out)?,
+            Order::Show => self.show(out)?,
+            Order::Text => {
+                out.write_all(bytes)?;
+                writeln!(out)?;
+            }
+            Order::Cut => self.cut(after(bytes, 1), byte_at(bytes, 0)),
+            Order::Early => self.early(starting::mode_of(byte_at(bytes, 0)), out)?,
+            Order::RunApp => self.run_app(numbers::two(bytes, 0)),
+            Order::Confirm => self.confirm(out)?,
+            Order::StoreRate => self.store_rate(rates::rate_of(byte_at(bytes, 0)), out)?,
+            Order::ReadRate => self.read_rate(rates::rate_of(byte_at(bytes, 0)), out)?,
+            Order::Mend => self.mend(byte_at(bytes, 0), out)?,
+            Order::Write => self.write(bytes, out)?,
+            Order::Hear => hearing::hear(&mut self.desk, bytes, out)?,
+            Order::Ask => self.ask(bytes, out)?,
+        }
+        Ok(())
+    }
 
-fn say(out: &mut impl Write, text: &[u8]) -> io::Result<()> {
-    show::text(out, text)?;
-    show::byte(out, b'\n')
-}
-
-// The lines that change a number: what is lent (`n`, `c`, `m`), or one of the state (`p`).
-fn number(bench: &mut Bench, letter: u8, bytes: &[u8]) {
-    match letter {
-        b'n' => bench.flash = numbers::four(bytes, 0) as usize,
-        b'c' => bench.record = byte_at(bytes, 0) as usize,
-        b'm' => bench.room = numbers::two(bytes, 0) as usize,
-        _ => {
-            let n = bench.numbers;
-            bench.numbers = module::set(n, byte_at(bytes, 0), numbers::four(bytes, 1));
+    // A line as it was read: nothing, what it asks for, or why it is none.
+    fn obey(&mut self, line: &Line, out: &mut impl Write) -> io::Result<()> {
+        match line.order(self.app.is_some()) {
+            None => Ok(()),
+            Some(Ok(order)) => self.act(order, line.carried(), out),
+            Some(Err(fault)) => writeln!(out, "? {} {fault}", line.number),
         }
     }
 }
 
-fn recorded(bench: &mut Bench, bytes: &[u8]) {
-    let mut meta = bench.meta;
-    lay(&mut meta, bytes);
-    bench.meta = meta;
-}
-
-// The lines that store bytes: `f`, `q` and `r`.
-fn store(bench: &mut Bench, letter: u8, bytes: &[u8], f: &mut FrameBytes, flash: &mut [u8]) {
-    match letter {
-        b'f' => module::poke(
-            flash,
-            numbers::four(bytes, 0) as usize,
-            module::after(bytes, 4),
-        ),
-        b'q' => module::poke(f, byte_at(bytes, 0) as usize, module::after(bytes, 1)),
-        _ => recorded(bench, bytes),
-    }
-}
-
-// A new bench, and the lines that the module's calls answer: `b`, `o`, `x` and `u`.
-fn drive(
+// The whole script. What has been printed goes out before more input is waited for. The count of lines ends the loop where no input does.
+pub(crate) fn run<R: Read>(
     bench: &mut Bench,
-    letter: u8,
-    bytes: &[u8],
-    f: &mut FrameBytes,
-    page: &mut Page,
-    flash: &mut [u8],
-    room: &mut [u8],
+    input: &mut BufReader<R>,
     out: &mut impl Write,
 ) -> io::Result<()> {
-    match letter {
-        b's' => {
-            *bench = module::renewed(module::setup_of(bytes), f, page, flash, room);
-            Ok(())
+    let mut line = Line::new();
+    for number in 1..=u64::MAX {
+        let last = line.next(number, input)?;
+        bench.obey(&line, out)?;
+        if input.buffer().is_empty() {
+            out.flush()?;
         }
-        b'b' => starting::begin(bench, byte_at(bytes, 0), f, page, flash, out),
-        b'u' => asking::ask(bench, bytes, f, page, flash, room, out),
-        b'o' => feeding::once(bench, bytes, f, page, flash, room, out),
-        _ => feeding::all(bench, bytes, f, page, flash, room, out),
-    }
-}
-
-// A line of the script, within its limits.
-fn act(
-    bench: &mut Bench,
-    letter: u8,
-    bytes: &[u8],
-    f: &mut FrameBytes,
-    page: &mut Page,
-    flash: &mut [u8],
-    room: &mut [u8],
-    out: &mut impl Write,
-) -> io::Result<()> {
-    match letter {
-        b'n' | b'c' | b'm' | b'p' => {
-            number(bench, letter, bytes);
-            Ok(())
-        }
-        b'f' | b'r' | b'q' => {
-            store(bench, letter, bytes, f, flash);
-            Ok(())
-        }
-        b'd' => dump::dump(bench, f, flash, room, out),
-        b't' => say(out, bytes),
-        b'j' => {
-            cutting::cut(bench, bytes);
-            Ok(())
-        }
-        b'e' => early::tell(bench, byte_at(bytes, 0), out),
-        b'v' => mending::mended(bench, byte_at(bytes, 0), out),
-        b'w' => writing::only(bench, bytes, room, out),
-        b'h' => hearing::hear(bench, bytes, out),
-        b'a' => {
-            app::begin(bench, numbers::two(bytes, 0), f);
-            Ok(())
-        }
-        b'k' | b'g' | b'y' => rates::ask(bench, letter, byte_at(bytes, 0), out),
-        _ => drive(bench, letter, bytes, f, page, flash, room, out),
-    }
-}
-
-// A line as it was read: nothing, a refusal, or what it says.
-fn obey(
-    bench: &mut Bench,
-    line: Line,
-    bytes: &[u8],
-    f: &mut FrameBytes,
-    page: &mut Page,
-    flash: &mut [u8],
-    room: &mut [u8],
-    out: &mut impl Write,
-) -> io::Result<()> {
-    let letter = line.letter;
-    let carried = first(bytes, line.len);
-    if line.is_empty() {
-        return Ok(());
-    }
-    if line.is_bad() {
-        return refuse(out, line, carried);
-    }
-    if limits::is_allowed(bench.runs, letter, carried) {
-        return act(bench, letter, carried, f, page, flash, room, out);
-    }
-    refuse(out, line, carried)
-}
-
-// The script between two lines: how many lines have been read, what is unread of the block, and whether that was the last.
-#[derive(Drop)]
-struct Turned {
-    lines: u64,
-    at: usize,
-    end: usize,
-    last: bool,
-}
-
-// What has been printed goes out before more input is waited for.
-fn shown(waits: bool, out: &mut impl Write) -> io::Result<()> {
-    if waits {
-        return out.flush();
-    }
-    Ok(())
-}
-
-// The next line, read and obeyed.
-fn turn(
-    bench: &mut Bench,
-    s: Turned,
-    input: &mut impl Read,
-    block: &mut [u8],
-    bytes: &mut [u8],
-    f: &mut FrameBytes,
-    page: &mut Page,
-    flash: &mut [u8],
-    room: &mut [u8],
-    out: &mut impl Write,
-) -> io::Result<Turned>
-    requires { (s.at ≤ s.end) × (s.end ≤ length block.old) × (s.lines + 1 < 2 ^ 64) }
-    ensures { IfOk result (λ t. (t.at ≤ t.end) × (t.end ≤ length block.new) × (t.lines ≡ s.lines + 1)) }
-{
-    let number = s.lines + 1;
-    let t = input::next(input, number, block, s.at, s.end, bytes)?;
-    obey(bench, t.line, bytes, f, page, flash, room, out)?;
-    shown(t.at == t.end, out)?;
-    Ok(Turned {
-        lines: number,
-        at: t.at,
-        end: t.end,
-        last: t.last,
-    })
-}
-
-// The lines of the script. Their count ends the loop where no input does.
-fn lines(
-    bench: &mut Bench,
-    input: &mut impl Read,
-    block: &mut [u8],
-    bytes: &mut [u8],
-    f: &mut FrameBytes,
-    page: &mut Page,
-    flash: &mut [u8],
-    room: &mut [u8],
-    out: &mut impl Write,
-) -> io::Result<()> {
-    let mut s = Turned {
-        lines: 0,
-        at: 0,
-        end: 0,
-        last: false,
-    };
-    while s.lines < u64::MAX {
-        s = turn(bench, s, input, block, bytes, f, page, flash, room, out)?;
-        if s.last {
+        if last {
             break;
         }
     }
-    Ok(())
-}
-
-// The whole script, on buffers that the caller lends.
-pub(crate) fn run(
-    input: &mut impl Read,
-    block: &mut [u8],
-    bytes: &mut [u8],
-    f: &mut FrameBytes,
-    page: &mut Page,
-    flash: &mut [u8],
-    room: &mut [u8],
-    out: &mut impl Write,
-) -> io::Result<()> {
-    let mut bench = module::renewed(module::listening(), f, page, flash, room);
-    lines(&mut bench, input, block, bytes, f, page, flash, room, out)?;
     out.flush()
 }

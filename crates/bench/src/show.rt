@@ -1,56 +1,29 @@
-// What is printed, part by part. The writer collects it: it goes out where that is full, before more input is waited for, and at the end.
-use crate::digits;
-use std::io;
-use std::io::Write;
+// Bytes as they are printed. `mend` and `replay` print them so too: a crate for these lines alone, with contracts and edits of its own, would be longer than they
+// are.
+use std::fmt;
 
-pub(crate) fn byte(out: &mut impl Write, b: u8) -> io::Result<()> {
-    out.write_all(&[b])
-}
+// Two hexadecimal digits each.
+#[derive(Clone, Copy)]
+pub struct Hex<'a>(pub &'a [u8]);
 
-pub(crate) fn text(out: &mut impl Write, s: &[u8]) -> io::Result<()> {
-    out.write_all(s)
-}
-
-pub(crate) fn decimal(out: &mut impl Write, n: u64) -> io::Result<()> {
-    write!(out, "{n}")
-}
-
-// A blank, and the number.
-pub(crate) fn next_decimal(out: &mut impl Write, n: u64) -> io::Result<()> {
-    write!(out, " {n}")
-}
-
-// The numbers, a blank before each.
-pub(crate) fn numbers(out: &mut impl Write, list: &[u64]) -> io::Result<()> {
-    for n in list {
-        next_decimal(out, *n)?;
+impl<'a> fmt::Display for Hex<'a> {
+    fn fmt<W: fmt::Write>(&self, f: &mut fmt::Formatter<W>) -> fmt::Result {
+        for b in self.0 {
+            write!(f, "{b:02X}")?;
+        }
+        Ok(())
     }
-    Ok(())
 }
 
-pub(crate) fn pair(out: &mut impl Write, b: u8) -> io::Result<()> {
-    out.write_all(&[digits::upper(b / 16), digits::upper(b % 16)])
-}
+// The same at a line's end: behind a blank, where there are any.
+#[derive(Clone, Copy)]
+pub struct Tail<'a>(pub &'a [u8]);
 
-pub(crate) fn hex(out: &mut impl Write, s: &[u8]) -> io::Result<()> {
-    for b in s {
-        pair(out, *b)?;
+impl<'a> fmt::Display for Tail<'a> {
+    fn fmt<W: fmt::Write>(&self, f: &mut fmt::Formatter<W>) -> fmt::Result {
+        if self.0.is_empty() {
+            return Ok(());
+        }
+        write!(f, " {}", Hex(self.0))
     }
-    Ok(())
-}
-
-// The bytes, where there are any, after a blank; and the line's end.
-pub(crate) fn end(out: &mut impl Write, s: &[u8]) -> io::Result<()> {
-    if s.is_empty() {
-        return byte(out, b'\n');
-    }
-    byte(out, b' ')?;
-    hex(out, s)?;
-    byte(out, b'\n')
-}
-
-// Four digits.
-pub(crate) fn hex16(out: &mut impl Write, v: u16) -> io::Result<()> {
-    pair(out, (v / 256) as u8)?;
-    pair(out, (v % 256) as u8)
 }

@@ -1,15 +1,17 @@
-// Why a frame that has ended draws no reply: the words behind the mode. An answer with no reason has none.
-use crate::show;
-use std::io;
-use std::io::Write;
+// Why a frame that has ended draws no reply. The words are the programs': the crate of `Silence` is in the archives for C, and prints nothing.
+use device_replies::Answer;
+use device_turns::Silence;
 
-pub(crate) fn reason(out: &mut impl Write, why: u8) -> io::Result<()> {
-    match why {
-        1 => show::text(out, b" overheard reply"),
-        2 => show::text(out, b" unreadable frame"),
-        3 => show::text(out, b" wrong CRC"),
-        4 => show::text(out, b" not selected"),
-        5 => show::text(out, b" Select without a match"),
-        _ => Ok(()),
+// The words behind the mode; none behind that of another answer.
+pub(crate) fn reason(answer: Answer) -> &'static str {
+    match answer {
+        Answer::Silent { why } => match why {
+            Silence::OverheardReply => " overheard reply",
+            Silence::UnreadableFrame => " unreadable frame",
+            Silence::WrongCrc => " wrong CRC",
+            Silence::NotSelected => " not selected",
+            Silence::SelectWithoutMatch => " Select without a match",
+        },
+        _ => "",
     }
 }

@@ -1,68 +1,53 @@
-// A start of the module.
-use crate::module::Bench;
-use crate::{module, show};
-use device_start::{Started, start};
+// A start of the module, and what the record alone says of one.
+use crate::module::{Bench, lend};
+use device_early::{Outlook, early};
+use device_start::start;
 use device_state::refusal::refusal_number;
 use std::io;
 use std::io::Write;
 use store_flash::cells::first;
-use store_flash::storage::Page;
-use wire_frames::frame::FrameBytes;
 use wire_numbers::RunMode;
 
 pub(crate) fn mode_of(b: u8) -> RunMode {
-    if b == 0 {
-        return RunMode::HandOff;
+    match b {
+        0 => RunMode::HandOff,
+        _ => RunMode::Service,
     }
-    RunMode::Service
 }
 
-pub(crate) fn mode(out: &mut impl Write, mode: RunMode) -> io::Result<()> {
+pub(crate) fn name(mode: RunMode) -> &'static str {
     match mode {
-        RunMode::HandOff => show::text(out, b"handoff"),
-        RunMode::Service => show::text(out, b"service"),
+        RunMode::HandOff => "handoff",
+        RunMode::Service => "service",
     }
 }
 
-fn outcome(out: &mut impl Write, refused: u64, decision: RunMode) -> io::Result<()> {
-    if refused == 0 {
-        return mode(out, decision);
+impl Bench {
+    // The line `b`: the refusal's number, or the mode.
+    pub fn start(&mut self, asked: RunMode, out: &mut impl Write) -> io::Result<()> {
+        let flash = first(&self.flash, self.lent.flash);
+        let s = start(
+            self.setup,
+            asked,
+            flash,
+            lend(&mut self.record, self.lent.record),
+        );
+        let refusal = s.refusal;
+        let decision = s.mode;
+        self.adopt(s.state);
+        match refusal {
+            None => writeln!(out, "start {}", name(decision)),
+            Some(why) => writeln!(out, "start {}", refusal_number(why)),
+        }
     }
-    show::decimal(out, refused)
-}
 
-// The refusal's number, or the mode.
-fn tell(out: &mut impl Write, refused: u64, decision: RunMode) -> io::Result<()> {
-    show::text(out, b"start ")?;
-    outcome(out, refused, decision)?;
-    show::byte(out, b'\n')
-}
-
-// The call, on what is lent.
-fn started(bench: &Bench, asked: u8, flash: &[u8], meta: &mut [u8]) -> Started {
-    let setup = bench.setup;
-    let n = module::lent(bench.record, meta);
-    start(
-        setup,
-        mode_of(asked),
-        first(flash, bench.flash),
-        &mut meta[..n],
-    )
-}
-
-pub(crate) fn begin(
-    bench: &mut Bench,
-    asked: u8,
-    f: &mut FrameBytes,
-    page: &mut Page,
-    flash: &[u8],
-    out: &mut impl Write,
-) -> io::Result<()> {
-    let mut meta = bench.meta;
-    let s = started(bench, asked, flash, &mut meta);
-    let refusal = s.refusal;
-    let decision = s.mode;
-    bench.meta = meta;
-    module::adopted(bench, s.state, f, page);
-    tell(out, refusal.map_or(0, refusal_number) as u64, decision)
+    // The line `e`.
+    pub fn early(&self, asked: RunMode, out: &mut impl Write) -> io::Result<()> {
+        match early(self.setup, asked, first(&self.record, self.lent.record)) {
+            Outlook::ReadsOn => writeln!(out, "early reads on"),
+            Outlook::Stays => writeln!(out, "early stays"),
+            Outlook::BadSetup => writeln!(out, "early 10"),
+            Outlook::BadRecord => writeln!(out, "early 13"),
+        }
+    }
 }

@@ -1,64 +1,59 @@
-// A request that the desk writes into the room lent.
-use crate::module::Bench;
-use crate::{module, numbers, show};
+// A request that the desk writes into the room lent, and puts to the module.
+use crate::module::{Bench, after, lend};
+use crate::numbers;
+use crate::show::Tail;
 use desk_requests::{Request, RequestError, write_request};
 use std::io;
 use std::io::Write;
-use store_flash::cells::{byte_at, first};
+use store_flash::cells::{byte_at, first, lay};
+use wire_frames::frame::{FRAME, FrameBytes};
 use wire_numbers::Cmd;
 
-// The command of a number, which a line within its limits has.
-fn cmd_of(number: u8) -> Cmd {
-    Cmd::from_u8(number).unwrap_or(Cmd::Info)
-}
-
-// The request, before its data.
+// The request, before its data. Its command is one, which a line within its limits has.
 fn request_of(bytes: &[u8]) -> Request {
     Request {
-        cmd: cmd_of(byte_at(bytes, 0)),
+        cmd: Cmd::from_u8(byte_at(bytes, 0)).unwrap_or(Cmd::Info),
         flags: byte_at(bytes, 1),
         addr: numbers::four(bytes, 2),
     }
 }
 
-// The call, on what is lent.
-fn put(bench: &Bench, bytes: &[u8], room: &mut [u8]) -> Result<usize, RequestError> {
-    let n = module::lent(bench.room, room);
-    write_request(request_of(bytes), module::after(bytes, 6), &mut room[..n])
+// A reply takes the request's room, so that it is copied first.
+fn copied(request: &[u8]) -> FrameBytes {
+    let mut copy = [0u8; FRAME];
+    lay(&mut copy, request);
+    copy
 }
 
-fn told(out: &mut impl Write, said: Result<usize, RequestError>, room: &[u8]) -> io::Result<()> {
-    match said {
-        Ok(len) => {
-            show::decimal(out, 0)?;
-            show::next_decimal(out, len as u64)?;
-            show::end(out, first(room, len))
+impl Bench {
+    // The request and its line; how many bytes it has, none where it was refused.
+    fn written(&mut self, bytes: &[u8], out: &mut impl Write) -> io::Result<usize> {
+        let room = lend(&mut self.room, self.lent.room);
+        let written = write_request(request_of(bytes), after(bytes, 6), room);
+        match written {
+            Ok(len) => writeln!(out, "wrote 0 {len}{}", Tail(first(&self.room, len)))?,
+            Err(RequestError::NoRoom) => writeln!(out, "wrote 14")?,
+            Err(RequestError::TooLarge) => writeln!(out, "wrote 20")?,
         }
-        Err(RequestError::NoRoom) => show::text(out, b"14\n"),
-        Err(RequestError::TooLarge) => show::text(out, b"20\n"),
+        Ok(written.unwrap_or(0))
     }
-}
 
-// The request and its line; how many bytes it has, none where it was refused.
-pub(crate) fn write(
-    bench: &Bench,
-    bytes: &[u8],
-    room: &mut [u8],
-    out: &mut impl Write,
-) -> io::Result<usize> {
-    let said = put(bench, bytes, room);
-    show::text(out, b"wrote ")?;
-    told(out, said, room)?;
-    Ok(said.unwrap_or(0))
-}
+    // The line `w`.
+    pub fn write(&mut self, bytes: &[u8], out: &mut impl Write) -> io::Result<()> {
+        self.written(bytes, out)?;
+        Ok(())
+    }
 
-// The line `w`.
-pub(crate) fn only(
-    bench: &Bench,
-    bytes: &[u8],
-    room: &mut [u8],
-    out: &mut impl Write,
-) -> io::Result<()> {
-    write(bench, bytes, room, out)?;
-    Ok(())
+    // The line `u`: the request, put as by `x` with the desk at the other end.
+    pub fn ask(&mut self, bytes: &[u8], out: &mut impl Write) -> io::Result<()> {
+        let n = self.written(bytes, out)?;
+        if n == 0 {
+            return Ok(());
+        }
+        let request = copied(first(&self.room, n));
+        self.asks = true;
+        self.feed(first(&request, n), out)?;
+        self.asks = false;
+        Ok(())
+    }
 }

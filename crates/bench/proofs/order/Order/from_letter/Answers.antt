@@ -1,27 +1,14 @@
--- The last arm's letter is none of the others', and no number lies between 1 and 0.
-use Prim.Native.Nat.{ℕ}
-use mathlib.Core.Path.{◌≡◌, refl}
-use mathlib.Core.Bool.{Bool, true, false}
-use lib.Dec.{leb}
-use borrow.Author.Tests.{ne_eqb, le-leb, lt-leb, leb-true, leb-false}
-use native.Mathlib.Omega.{arith}
-use Rattle.bench.specs.Digits.{between}
+-- The last arm's letter is none of the others'.
+use borrow.Author.Tests.{ne_eqb}
 use Rattle.bench.specs.Limits.{carried}
-use Rattle.bench.proofs.limits.count_of.Goals as goal
-
-none : (n : ℕ) → between 1 0 n ≡ false
-none n = go (leb n 0) refl
-  where
-    go : (w : Bool) → leb n 0 ≡ w → between 1 0 n ≡ false
-    go true e = simp (lt-leb 1 n (omega (arith, leb-true n 0 e)))
-    go false e = simp (le-leb 1 n (omega (arith, leb-false n 0 e)), e)
+use Rattle.bench.proofs.order.Order.from_letter.Goals as goal
 
 pub returns-in_default : goal.returns-in_default
 unfolding carried
 returns-in_default c n =
     let letter = c.args.letter in
     let rest = c.in_default.in_default-own.rest in
-    rw (c.from_to-in_default.ensures.0, c.from_to-in_default.ensures.1, none n) (simp (
+    simp (
       ne_eqb letter 115 rest.0.0.0.0.0.0.0.0.0.0.0.0.0.0.0.0.0.0.0.0.0.0.1,
       ne_eqb letter 110 rest.0.0.0.0.0.0.0.0.0.0.0.0.0.0.0.0.0.0.0.0.0.1,
       ne_eqb letter 99 rest.0.0.0.0.0.0.0.0.0.0.0.0.0.0.0.0.0.0.0.0.1,
@@ -45,4 +32,4 @@ returns-in_default c n =
       ne_eqb letter 119 rest.0.0.1,
       ne_eqb letter 104 rest.0.1,
       ne_eqb letter 117 rest.1,
-    ))
+    )
