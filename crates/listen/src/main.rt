@@ -5,6 +5,7 @@
 
 use device_feed::feed;
 use device_replies::Answer;
+use device_start::new_state;
 use device_state::{PRESENT, Setup, State};
 use device_turns::Silence;
 use std::io;
@@ -13,30 +14,27 @@ use store_flash::storage::PAGE_SIZE;
 use wire_frames::frame::FRAME;
 use wire_numbers::COMPAT_UNSET;
 
-// How far the stream has been heard: the device, the bytes in all, how many of them the last call took, and whether the device listens on.
+const CAPACITY: usize = 16384;
+
+// The device, and how many bytes of the stream it has heard.
 #[derive(Drop)]
-struct Heard {
+struct Device {
     state: State,
+    flash: Vec<u8>,
+    record: [u8; 12],
     bytes: u64,
-    taken: usize,
-    on: bool,
 }
 
 fn unaddressed() -> Setup {
     Setup {
         erase_size: PAGE_SIZE,
-        capacity: 16384,
+        capacity: CAPACITY,
         id: [0u8; 16],
         id_len: 0,
         version: 0,
         key: COMPAT_UNSET,
         start_kind: PRESENT,
     }
-}
-
-// A frame that was replied to.
-fn replied(out: &mut impl Write, at: u64, status: u8) -> io::Result<()> {
-    writeln!(out, "{at} {status}")
 }
 
 fn reason(why: Silence) -> &'static str {
@@ -49,130 +47,85 @@ fn reason(why: Silence) -> &'static str {
     }
 }
 
-// A frame that was not.
-fn ignored(out: &mut impl Write, at: u64, why: Silence) -> io::Result<()> {
-    let reason = reason(why);
-    writeln!(out, "{at} silent {reason}")
-}
-
 // A frame that has ended gets a line; whether the device listens on.
 fn tell(out: &mut impl Write, at: u64, answer: Answer, status: u8) -> io::Result<bool> {
     match answer {
         Answer::Quiet => Ok(true),
         Answer::Silent { why } => {
-            ignored(out, at, why)?;
+            writeln!(out, "{at} silent {}", reason(why))?;
             Ok(true)
         }
-        Answer::Reply { len: _, wait: _ } => {
-            replied(out, at, status)?;
+        Answer::Reply { .. } => {
+            writeln!(out, "{at} {status}")?;
             Ok(true)
         }
-        Answer::Restart { len: _, mode: _ } => {
-            replied(out, at, status)?;
+        Answer::Restart { .. } => {
+            writeln!(out, "{at} {status}")?;
             Ok(false)
         }
         _ => Ok(false),
     }
 }
 
-// One call, as far as the end of a frame.
-fn hear(
-    out: &mut impl Write,
-    heard: Heard,
-    bytes: &[u8],
-    flash: &mut [u8; 16384],
-    meta: &mut [u8; 12],
-) -> io::Result<Heard> {
-    let mut reply = [0u8; FRAME];
-    let state = heard.state;
-    let f = feed(unaddressed(), state, bytes, flash, meta, &mut reply);
-    let total = heard.bytes.wrapping_add(f.taken as u64);
-    let answer = f.answer;
-    let next = f.state;
-    Ok(Heard {
-        state: next,
-        bytes: total,
-        taken: f.taken,
-        on: tell(out, total, answer, reply[3])?,
-    })
-}
-
-// All that one read brought, frame by frame.
-fn block(
-    out: &mut impl Write,
-    heard: Heard,
-    bytes: &[u8],
-    flash: &mut [u8; 16384],
-    meta: &mut [u8; 12],
-) -> io::Result<Heard> {
-    let mut h = heard;
-    let mut at: usize = 0;
-    while at < bytes.len() {
-        h = hear(out, h, &bytes[at..], flash, meta)?;
-        let n = h.taken;
-        if !h.on {
-            break;
-        }
-        if n == 0 {
-            break;
-        }
-        if bytes.len() - at < n {
-            break;
-        }
-        at += n;
+impl Device {
+    // One call, as far as the end of a frame: how many bytes it took, or None where the device listens no more.
+    fn call(&mut self, bytes: &[u8], out: &mut impl Write) -> io::Result<Option<usize>> {
+        let mut reply = [0u8; FRAME];
+        let f = feed(
+            unaddressed(),
+            self.state,
+            bytes,
+            &mut self.flash,
+            &mut self.record,
+            &mut reply,
+        );
+        let taken = f.taken;
+        let answer = f.answer;
+        self.state = f.state;
+        self.bytes = self.bytes.wrapping_add(taken as u64);
+        let on = tell(out, self.bytes, answer, reply[3])?;
+        Ok(on.then_some(taken))
     }
-    Ok(h)
-}
 
-// One read, before which goes out what has been printed. Whether it brought anything is told by the bytes in all.
-fn some(
-    input: &mut impl Read,
-    out: &mut impl Write,
-    heard: Heard,
-    flash: &mut [u8; 16384],
-    meta: &mut [u8; 12],
-) -> io::Result<Heard> {
-    let mut space = [0u8; 4096];
-    out.flush()?;
-    let n = input.read(&mut space)?;
-    block(out, heard, &space[..n], flash, meta)
-}
-
-// The stream to its end, or to a restart. A proved loop has to end, and nothing says that a stream does, so the turns are counted up to a number that no run
-// comes to.
-fn all(
-    input: &mut impl Read,
-    out: &mut impl Write,
-    flash: &mut [u8; 16384],
-    meta: &mut [u8; 12],
-) -> io::Result<Heard> {
-    let mut heard = Heard {
-        state: device_start::new_state(false),
-        bytes: 0,
-        taken: 0,
-        on: true,
-    };
-    for _ in 0..u64::MAX {
-        let before = heard.bytes;
-        heard = some(input, out, heard, flash, meta)?;
-        if heard.bytes == before {
-            break;
+    // All that one read brought, frame by frame; whether the device listens on.
+    fn hear(&mut self, bytes: &[u8], out: &mut impl Write) -> io::Result<bool> {
+        let mut rest = bytes;
+        // Each call takes a byte.
+        for _ in 0..bytes.len() {
+            match self.call(rest, out)? {
+                None => return Ok(false),
+                Some(taken) if taken < rest.len() => rest = &rest[taken..],
+                Some(_) => break,
+            }
         }
-        if !heard.on {
-            break;
-        }
+        Ok(true)
     }
-    Ok(heard)
+
+    // The stream to its end, or to a restart. What has been printed goes out before each read. A proved loop has to end, and nothing says that a stream does,
+    // so the reads are counted up to a number that no run comes to.
+    fn hear_all(&mut self, input: &mut impl Read, out: &mut impl Write) -> io::Result<()> {
+        let mut space = [0u8; 4096];
+        for _ in 0..u64::MAX {
+            out.flush()?;
+            let n = input.read(&mut space)?;
+            if n == 0 || !self.hear(&space[..n], out)? {
+                break;
+            }
+        }
+        Ok(())
+    }
 }
 
 fn main(rt: HostRuntime) -> io::Result<()> {
     let mut out = BufWriter::new(rt.alloc(), io::writer(&rt))?;
+    let mut device = Device {
+        state: new_state(false),
+        flash: vec![in rt.alloc(); 0xFF; CAPACITY]?,
+        record: [0xFF; 12],
+        bytes: 0,
+    };
     writeln!(out, "end answer")?;
-    let mut flash = [0xFFu8; 16384];
-    let mut meta = [0xFFu8; 12];
-    let heard = all(&mut rt.stdin(), &mut out, &mut flash, &mut meta)?;
-    let state = heard.state;
-    let numbers = state.numbers;
-    writeln!(out, "open {}", numbers.got)?;
+    device.hear_all(&mut rt.stdin(), &mut out)?;
+    writeln!(out, "open {}", device.state.numbers.got)?;
     out.flush()
 }
