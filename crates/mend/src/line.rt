@@ -1,131 +1,165 @@
-// One line of the input, character by character. Its bytes are lent beside it.
+// One line of the input, character by character.
+use arrayvec::ArrayVec;
+use std::fmt;
 
-// The most bytes that a line may have: a setup's.
-pub const MOST: usize = 32;
+// The most bytes that a line may have: a setup's, which may do without its last.
+const SETUP: usize = 32;
 
 // How many bytes a record has.
 const RECORD: usize = 12;
 
-// The value of what is no digit.
-const NONE: u8 = 16;
+// What a line is.
+#[derive(Clone, Copy, Debug, PartialEq, Eq)]
+pub enum Order {
+    Nothing,
+    Setup,
+    Record,
+}
 
-#[derive(Clone, Copy)]
+// Why a line is none.
+#[derive(Clone, Copy, Debug, PartialEq, Eq)]
+pub enum Fault {
+    NoDigit,
+    HalfAByte,
+    // Of so many bytes, or of more than that.
+    WrongLength {
+        len: usize,
+        long: bool,
+        is_setup: bool,
+    },
+}
+
+impl fmt::Display for Fault {
+    fn fmt<W: fmt::Write>(&self, f: &mut fmt::Formatter<W>) -> fmt::Result {
+        match self {
+            Fault::NoDigit => f.write_str("a character that is no hexadecimal digit"),
+            Fault::HalfAByte => f.write_str("half a byte"),
+            Fault::WrongLength {
+                len,
+                long,
+                is_setup,
+            } => {
+                let more = if *long { "more than " } else { "" };
+                let wanted = if *is_setup {
+                    "a setup has 31 or 32"
+                } else {
+                    "a record has 12"
+                };
+                write!(f, "{more}{len} bytes, and {wanted}")
+            }
+        }
+    }
+}
+
+#[derive(Drop)]
 pub struct Line {
     // Which line of the input it is.
     pub number: u64,
     // It begins with an `s`.
     pub is_setup: bool,
-    pub len: usize,
-    // The first digit of a byte, or NONE between bytes.
-    high: u8,
+    bytes: ArrayVec<u8, SETUP>,
+    // The first digit of a byte.
+    high: Option<u8>,
     comment: bool,
     // A character that is no digit.
-    pub strange: bool,
+    strange: bool,
     // More bytes than any line may have.
-    pub long: bool,
+    long: bool,
 }
 
 fn is_blank(c: u8) -> bool {
-    match c {
-        b' ' | b'\t' | b'\r' => true,
-        _ => false,
-    }
+    matches!(c, b' ' | b'\t' | b'\r')
 }
 
 // The value of a hexadecimal digit of either case.
-fn value(c: u8) -> u8 {
+fn value(c: u8) -> Option<u8> {
     match c {
-        b'0'..=b'9' => c - b'0',
-        b'A'..=b'F' => c - b'A' + 10,
-        b'a'..=b'f' => c - b'a' + 10,
-        _ => NONE,
+        b'0'..=b'9' => Some(c - b'0'),
+        b'A'..=b'F' => Some(c - b'A' + 10),
+        b'a'..=b'f' => Some(c - b'a' + 10),
+        _ => None,
     }
 }
 
 impl Line {
-    pub fn new(number: u64) -> Line {
+    // The first line.
+    pub fn new() -> Line {
         Line {
-            number: number,
+            number: 1,
             is_setup: false,
-            len: 0,
-            high: NONE,
+            bytes: ArrayVec::new(),
+            high: None,
             comment: false,
             strange: false,
             long: false,
         }
     }
 
-    // Half a byte is left over.
-    pub fn is_half(self) -> bool {
-        self.high < NONE
+    // The line of this number, of which nothing has been read.
+    pub fn begin(&mut self, number: u64) {
+        self.number = number;
+        self.is_setup = false;
+        self.bytes.clear();
+        self.high = None;
+        self.comment = false;
+        self.strange = false;
+        self.long = false;
     }
 
-    pub fn is_empty(self) -> bool {
-        if self.is_setup || self.strange {
-            return false;
-        }
-        if self.high < NONE {
-            return false;
-        }
-        self.len == 0
+    pub fn bytes(&self) -> &[u8] {
+        &self.bytes
     }
 
-    // Whether it has as many bytes as a record, or as a setup with or without its last.
-    fn is_whole(self) -> bool {
-        if self.long {
-            return false;
-        }
-        if self.is_setup {
-            return self.len == MOST || self.len == MOST - 1;
-        }
-        self.len == RECORD
+    fn is_empty(&self) -> bool {
+        !self.is_setup && !self.strange && self.high.is_none() && self.bytes.is_empty()
     }
 
-    pub fn is_bad(self) -> bool {
-        if self.strange || self.high < NONE {
-            return true;
+    // What it is, or why it is none: the first reason of docs/MEND.md that fits.
+    pub fn order(&self) -> Result<Order, Fault> {
+        if self.is_empty() {
+            return Ok(Order::Nothing);
         }
-        !self.is_whole()
+        if self.strange {
+            return Err(Fault::NoDigit);
+        }
+        if self.high.is_some() {
+            return Err(Fault::HalfAByte);
+        }
+        match (self.long, self.is_setup, self.bytes.len()) {
+            (false, true, 31 | SETUP) => Ok(Order::Setup),
+            (false, false, RECORD) => Ok(Order::Record),
+            (long, is_setup, len) => Err(Fault::WrongLength {
+                len,
+                long,
+                is_setup,
+            }),
+        }
     }
 
-    fn digit(mut self, c: u8, bytes: &mut [u8]) -> Line {
-        let d = value(c);
-        let high = self.high;
-        let len = self.len;
-        if NONE <= d {
-            self.strange = true;
-            return self;
+    fn digit(&mut self, c: u8) {
+        match (value(c), self.high) {
+            (None, _) => self.strange = true,
+            (Some(d), None) => self.high = Some(d),
+            (Some(d), Some(high)) => {
+                self.high = None;
+                if self.bytes.try_push(high << 4 | d).is_err() {
+                    self.long = true;
+                }
+            }
         }
-        if NONE <= high {
-            self.high = d;
-            return self;
-        }
-        self.high = NONE;
-        if bytes.len() <= len {
-            self.long = true;
-            return self;
-        }
-        bytes[len] = 16 * high + d;
-        self.len = len + 1;
-        self
     }
 
     // One character more, which does not end the line.
-    pub fn read(mut self, c: u8, bytes: &mut [u8]) -> Line {
-        if self.comment {
-            return self;
+    pub fn read(&mut self, c: u8) {
+        if self.comment || is_blank(c) {
+            return;
         }
         if c == b'#' {
             self.comment = true;
-            return self;
-        }
-        if is_blank(c) {
-            return self;
-        }
-        if c == b's' && self.is_empty() {
+        } else if c == b's' && self.is_empty() {
             self.is_setup = true;
-            return self;
+        } else {
+            self.digit(c);
         }
-        self.digit(c, bytes)
     }
 }

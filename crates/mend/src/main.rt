@@ -7,78 +7,72 @@ mod module;
 mod show;
 mod tell;
 
-use crate::line::Line;
+use crate::line::{Line, Order};
 use device_state::Setup;
 use std::io;
 use std::io::{BufWriter, Read, Write};
 
 // Between two characters: the setup in force, and the line under way.
 #[derive(Drop)]
-struct Reading {
+struct Reader {
     setup: Setup,
     line: Line,
 }
 
-// A line as it was read: nothing, a complaint, a setup or a record. The setup for the lines below.
-fn obey(out: &mut impl Write, setup: Setup, line: Line, bytes: &[u8]) -> io::Result<Setup> {
-    if line.is_empty() {
-        return Ok(setup);
-    }
-    if line.is_bad() {
-        tell::bad(out, line)?;
-        return Ok(module::after_bad(setup, line.is_setup));
-    }
-    if line.is_setup {
-        return Ok(module::setup_of(bytes, line.len));
-    }
-    tell::mended(out, setup, line.number, bytes)?;
-    Ok(setup)
-}
-
-// What one read brought, line by line.
-fn block(
-    out: &mut impl Write,
-    setup: Setup,
-    line: Line,
-    part: &[u8],
-    bytes: &mut [u8],
-) -> io::Result<Reading> {
-    let mut setup = setup;
-    let mut line = line;
-    for c in part {
-        if *c == b'\n' {
-            setup = obey(out, setup, line, bytes)?;
-            line = Line::new(line.number.wrapping_add(1));
-        } else {
-            line = line.read(*c, bytes);
+impl Reader {
+    // A line as it was read: nothing, a complaint, a setup for the lines below, or a record. A bad setup is one that no module has, so that no record below
+    // is judged by the one before.
+    fn obey(&mut self, out: &mut impl Write) -> io::Result<()> {
+        let number = self.line.number;
+        match self.line.order() {
+            Ok(Order::Nothing) => {}
+            Ok(Order::Setup) => self.setup = module::setup_of(self.line.bytes()),
+            Ok(Order::Record) => tell::mended(out, self.setup, number, self.line.bytes())?,
+            Err(fault) => {
+                writeln!(out, "line {number}: bad: {fault}")?;
+                if self.line.is_setup {
+                    self.setup.capacity = 0;
+                }
+            }
         }
+        Ok(())
     }
-    Ok(Reading { setup, line })
-}
 
-// The input to its end. A proved loop has to end, and nothing says that an input does, so the reads are counted up to a number that no run comes to. What has
-// been printed goes out before each.
-fn all(input: &mut impl Read, out: &mut impl Write, bytes: &mut [u8]) -> io::Result<Reading> {
-    let mut setup = module::listening();
-    let mut line = Line::new(1);
-    for _ in 0..u64::MAX {
+    // What one read brought, line by line.
+    fn read(&mut self, part: &[u8], out: &mut impl Write) -> io::Result<()> {
+        for c in part {
+            if *c == b'\n' {
+                self.obey(out)?;
+                self.line.begin(self.line.number.wrapping_add(1));
+            } else {
+                self.line.read(*c);
+            }
+        }
+        Ok(())
+    }
+
+    // The input to its end. A proved loop has to end, and nothing says that an input does, so the reads are counted up to a number that no run comes to. What
+    // has been printed goes out before each.
+    fn read_all(&mut self, input: &mut impl Read, out: &mut impl Write) -> io::Result<()> {
         let mut space = [0u8; 4096];
-        out.flush()?;
-        let n = input.read(&mut space)?;
-        if n == 0 {
-            break;
+        for _ in 0..u64::MAX {
+            out.flush()?;
+            let n = input.read(&mut space)?;
+            if n == 0 {
+                break;
+            }
+            self.read(&space[..n], out)?;
         }
-        let r = block(out, setup, line, &space[..n], bytes)?;
-        setup = r.setup;
-        line = r.line;
+        self.obey(out)
     }
-    Ok(Reading { setup, line })
 }
 
 fn main(rt: HostRuntime) -> io::Result<()> {
     let mut out = BufWriter::new(rt.alloc(), io::writer(&rt))?;
-    let mut bytes = [0u8; line::MOST];
-    let r = all(&mut rt.stdin(), &mut out, &mut bytes)?;
-    obey(&mut out, r.setup, r.line, &bytes)?;
+    let mut reader = Reader {
+        setup: module::listening(),
+        line: Line::new(),
+    };
+    reader.read_all(&mut rt.stdin(), &mut out)?;
     out.flush()
 }

@@ -1,44 +1,22 @@
-// What is said of a line: that it is bad, or what was mended.
-use crate::line::Line;
-use crate::show;
+// What is said of a record: what was mended, and what a start would say.
+use crate::show::Hex;
 use device_early::{Outlook, early};
-use device_mend::{MendError, mend, mend_number};
+use device_mend::{ENTRIES, ENTRY, Mended, mend, mend_number};
 use device_state::{CAREFUL, PRESENT, Setup};
-use std::io;
 use std::io::Write;
-use store_flash::cells::{byte_at, lay};
+use std::{fmt, io};
+use store_flash::cells::{byte_at, first, lay};
 use store_record::boot_meta_store::starts_left;
 use store_record::rewrite::RECORD;
 use store_record::traits::BootState;
 use wire_numbers::RunMode;
 
-fn which(out: &mut impl Write, number: u64) -> io::Result<()> {
-    write!(out, "line {number}: ")
-}
-
-// How many bytes a line of this kind has.
-fn wanted(is_setup: bool) -> &'static str {
-    if is_setup {
-        "a setup has 31 or 32"
-    } else {
-        "a record has 12"
-    }
-}
-
-// Why a line is none.
-pub(crate) fn bad(out: &mut impl Write, line: Line) -> io::Result<()> {
-    which(out, line.number)?;
-    if line.strange {
-        return writeln!(out, "bad: a character that is no hexadecimal digit");
-    }
-    if line.is_half() {
-        return writeln!(out, "bad: half a byte");
-    }
-    write!(out, "bad: ")?;
-    if line.long {
-        write!(out, "more than ")?;
-    }
-    writeln!(out, "{} bytes, and {}", line.len, wanted(line.is_setup))
+// A byte that has changed.
+#[derive(Clone, Copy)]
+struct Changed {
+    place: u8,
+    old: u8,
+    new: u8,
 }
 
 fn name(place: u8) -> &'static str {
@@ -69,32 +47,16 @@ fn state(old: u8) -> &'static str {
     }
 }
 
-fn why(out: &mut impl Write, place: u8, old: u8) -> io::Result<()> {
-    match place {
-        0 => write!(out, "{}", state(old)),
-        1 => write!(out, "{} left as before", starts(starts_left(old))),
-        _ => write!(out, "none stored"),
+impl fmt::Display for Changed {
+    fn fmt<W: fmt::Write>(&self, f: &mut fmt::Formatter<W>) -> fmt::Result {
+        write!(f, "byte {}, {}: ", self.place, name(self.place))?;
+        write!(f, "{:02X} to {:02X}, ", self.old, self.new)?;
+        match self.place {
+            0 => f.write_str(state(self.old)),
+            1 => write!(f, "{} left as before", starts(starts_left(self.old))),
+            _ => f.write_str("none stored"),
+        }
     }
-}
-
-// A byte that has changed.
-fn entry(out: &mut impl Write, place: u8, old: u8, new: u8) -> io::Result<()> {
-    let name = name(place);
-    write!(out, "byte {place}, {name}: {old:02X} to {new:02X}, ")?;
-    why(out, place, old)?;
-    writeln!(out)
-}
-
-fn entries(out: &mut impl Write, count: u8, list: &[u8]) -> io::Result<()> {
-    for i in 0..count as usize {
-        entry(
-            out,
-            byte_at(list, 3 * i),
-            byte_at(list, 3 * i + 1),
-            byte_at(list, 3 * i + 2),
-        )?;
-    }
-    Ok(())
 }
 
 fn head(out: &mut impl Write, count: u8) -> io::Result<()> {
@@ -110,25 +72,30 @@ fn outlook(setup: Setup, kind: u8, meta: &[u8]) -> &'static str {
     let mut setup = setup;
     setup.start_kind = kind;
     match early(setup, RunMode::HandOff, meta) {
-        Ok(Outlook::Stays) => "stays",
-        Ok(Outlook::ReadsOn) => "reads on",
-        Err(_) => "is refused",
+        Outlook::Stays => "stays",
+        Outlook::ReadsOn => "reads on",
+        _ => "is refused",
     }
 }
 
 fn done(out: &mut impl Write, setup: Setup, count: u8, meta: &[u8], list: &[u8]) -> io::Result<()> {
     head(out, count)?;
-    entries(out, count, list)?;
-    write!(out, "record ")?;
-    show::hex(out, meta)?;
-    writeln!(out)?;
+    for entry in first(list, ENTRY * count as usize).chunks(ENTRY) {
+        let changed = Changed {
+            place: byte_at(entry, 0),
+            old: byte_at(entry, 1),
+            new: byte_at(entry, 2),
+        };
+        writeln!(out, "{changed}")?;
+    }
+    writeln!(out, "record {}", Hex(meta))?;
     writeln!(out, "present start: {}", outlook(setup, PRESENT, meta))?;
     writeln!(out, "careful start: {}", outlook(setup, CAREFUL, meta))
 }
 
 // A refusal: of the setup, since record and list have the right lengths here.
-fn refused(out: &mut impl Write, why: MendError) -> io::Result<()> {
-    let number = mend_number(Err(why));
+fn refused(out: &mut impl Write, said: Mended) -> io::Result<()> {
+    let number = mend_number(said);
     writeln!(out, "not mended: no good setup ({number})")
 }
 
@@ -140,11 +107,12 @@ pub(crate) fn mended(
     bytes: &[u8],
 ) -> io::Result<()> {
     let mut meta = [0xFFu8; RECORD];
-    let mut list = [0u8; 36];
+    let mut list = [0u8; ENTRY * ENTRIES];
     lay(&mut meta, bytes);
-    which(out, number)?;
-    match mend(setup, &mut meta, &mut list) {
-        Ok(count) => done(out, setup, count, &meta, &list),
-        Err(why) => refused(out, why),
+    write!(out, "line {number}: ")?;
+    let said = mend(setup, &mut meta, &mut list);
+    match said {
+        Mended::Done { count } => done(out, setup, count, &meta, &list),
+        _ => refused(out, said),
     }
 }
