@@ -1,17 +1,21 @@
-// What is printed, part by part.
-use desk_captures::{Fault, fault_number};
-use std::io;
+// What is printed. Bytes print themselves in `bench` and `mend` too: a crate for these lines alone, with its contracts and edits, would be longer than they are.
 use std::io::Write;
+use std::{fmt, io};
 
-// The bytes after a blank, where there are any, and the end of the line.
-fn hex(out: &mut impl Write, s: &[u8]) -> io::Result<()> {
-    if !s.is_empty() {
-        write!(out, " ")?;
+// Bytes at a line's end, two hexadecimal digits each: behind a blank, where there are any.
+#[derive(Clone, Copy)]
+struct Tail<'a>(&'a [u8]);
+
+impl<'a> fmt::Display for Tail<'a> {
+    fn fmt<W: fmt::Write>(&self, f: &mut fmt::Formatter<W>) -> fmt::Result {
+        if !self.0.is_empty() {
+            f.write_str(" ")?;
+        }
+        for b in self.0 {
+            write!(f, "{b:02X}")?;
+        }
+        Ok(())
     }
-    for b in s {
-        write!(out, "{b:02X}")?;
-    }
-    writeln!(out)
 }
 
 pub(crate) fn counts(out: &mut impl Write, same: u64, more: u64) -> io::Result<()> {
@@ -35,8 +39,6 @@ pub(crate) fn differs(
     reply: &[u8],
 ) -> io::Result<()> {
     writeln!(out, "differs {k} at {at}")?;
-    write!(out, "capture")?;
-    hex(out, record)?;
-    write!(out, "module")?;
-    hex(out, reply)
+    writeln!(out, "capture{}", Tail(record))?;
+    writeln!(out, "module{}", Tail(reply))
 }
