@@ -2,7 +2,7 @@
 use crate::limits;
 use crate::module::{Bench, lend};
 use crate::show::Hex;
-use device_mend::{ENTRY, Mended, mend};
+use device_mend::{ENTRY, MendError, mend};
 use std::io;
 use std::io::Write;
 use store_flash::cells::first;
@@ -17,16 +17,16 @@ impl Bench {
             lend(&mut list, ENTRY * most as usize),
         );
         match said {
-            Mended::Done { count } => {
+            Ok(count) => {
                 write!(out, "mend 0")?;
                 for entry in first(&list, ENTRY * count as usize).chunks(ENTRY) {
                     write!(out, " {}", Hex(entry))?;
                 }
                 writeln!(out)
             }
-            Mended::BadSetup => writeln!(out, "mend 10"),
-            Mended::BadRecord => writeln!(out, "mend 13"),
-            Mended::ShortList => writeln!(out, "mend 27"),
+            Err(MendError::BadSetup) => writeln!(out, "mend 10"),
+            Err(MendError::BadRecord) => writeln!(out, "mend 13"),
+            Err(MendError::ShortList) => writeln!(out, "mend 27"),
         }
     }
 }

@@ -1,6 +1,6 @@
 // The app's own calls on the record lent: the confirm, and the rate that the bootloader listens at.
 use crate::module::{Bench, lend};
-use app_record::{RateRead, baud, confirm, set_baud, stored_number};
+use app_record::{BadRecord, baud, confirm, set_baud, stored_number};
 use std::io;
 use std::io::Write;
 use store_flash::cells::first;
@@ -27,8 +27,8 @@ impl Bench {
     // The line `y`: the bits per second, or the refusal's number.
     pub fn read_rate(&self, default: BaudRate, out: &mut impl Write) -> io::Result<()> {
         match baud(first(&self.record, self.lent.record), default) {
-            RateRead::Rate(rate) => writeln!(out, "rate {}", rate.hz()),
-            RateRead::BadRecord => writeln!(out, "rate 13"),
+            Ok(rate) => writeln!(out, "rate {}", rate.hz()),
+            Err(BadRecord) => writeln!(out, "rate 13"),
         }
     }
 }

@@ -1,6 +1,6 @@
 // A start of the module, and what the record alone says of one.
 use crate::module::{Bench, lend};
-use device_early::{Outlook, early};
+use device_early::{EarlyError, Outlook, early};
 use device_start::start;
 use device_state::refusal::refusal_number;
 use std::io;
@@ -44,10 +44,10 @@ impl Bench {
     // The line `e`.
     pub fn early(&self, asked: RunMode, out: &mut impl Write) -> io::Result<()> {
         match early(self.setup, asked, first(&self.record, self.lent.record)) {
-            Outlook::ReadsOn => writeln!(out, "early reads on"),
-            Outlook::Stays => writeln!(out, "early stays"),
-            Outlook::BadSetup => writeln!(out, "early 10"),
-            Outlook::BadRecord => writeln!(out, "early 13"),
+            Ok(Outlook::ReadsOn) => writeln!(out, "early reads on"),
+            Ok(Outlook::Stays) => writeln!(out, "early stays"),
+            Err(EarlyError::BadSetup) => writeln!(out, "early 10"),
+            Err(EarlyError::BadRecord) => writeln!(out, "early 13"),
         }
     }
 }

@@ -1,7 +1,7 @@
 // What is said of a record: what was mended, and what a start would say.
 use crate::show::Hex;
 use device_early::{Outlook, early};
-use device_mend::{ENTRIES, ENTRY, Mended, mend, mend_number};
+use device_mend::{ENTRIES, ENTRY, MendError, mend, mend_number};
 use device_state::{CAREFUL, PRESENT, Setup};
 use std::io::Write;
 use std::{fmt, io};
@@ -72,9 +72,9 @@ fn outlook(setup: Setup, kind: u8, meta: &[u8]) -> &'static str {
     let mut setup = setup;
     setup.start_kind = kind;
     match early(setup, RunMode::HandOff, meta) {
-        Outlook::Stays => "stays",
-        Outlook::ReadsOn => "reads on",
-        _ => "is refused",
+        Ok(Outlook::Stays) => "stays",
+        Ok(Outlook::ReadsOn) => "reads on",
+        Err(_) => "is refused",
     }
 }
 
@@ -94,8 +94,8 @@ fn done(out: &mut impl Write, setup: Setup, count: u8, meta: &[u8], list: &[u8])
 }
 
 // A refusal: of the setup, since record and list have the right lengths here.
-fn refused(out: &mut impl Write, said: Mended) -> io::Result<()> {
-    let number = mend_number(said);
+fn refused(out: &mut impl Write, why: MendError) -> io::Result<()> {
+    let number = mend_number(Err(why));
     writeln!(out, "not mended: no good setup ({number})")
 }
 
@@ -110,9 +110,8 @@ pub(crate) fn mended(
     let mut list = [0u8; ENTRY * ENTRIES];
     lay(&mut meta, bytes);
     write!(out, "line {number}: ")?;
-    let said = mend(setup, &mut meta, &mut list);
-    match said {
-        Mended::Done { count } => done(out, setup, count, &meta, &list),
-        _ => refused(out, said),
+    match mend(setup, &mut meta, &mut list) {
+        Ok(count) => done(out, setup, count, &meta, &list),
+        Err(why) => refused(out, why),
     }
 }
