@@ -2,7 +2,7 @@
 // bootloader's, which a start makes anew.
 use crate::module::{Bench, lend};
 use app_client::app_feed_in;
-use app_state::{AppNumbers, AppSetup, app_new};
+use app_state::{AppNumbers, AppSetup, AppState, app_new};
 use device_feed::Passed;
 use device_state::{Numbers, Setup};
 use store_flash::storage::NONE_PENDING;
@@ -41,29 +41,31 @@ fn numbers_of(n: Numbers) -> AppNumbers {
 }
 
 impl Bench {
+    fn keep(&mut self, app: AppState) {
+        self.state.frame = app.frame;
+        self.state.numbers = kept(app.numbers);
+    }
+
     // The line `a`: from now on the app runs, with a new state.
     pub fn run_app(&mut self, version: u16) {
-        let state = app_new();
-        let frame = state.frame;
-        self.frame = frame;
-        self.numbers = kept(state.numbers);
+        self.keep(app_new());
         self.app = Some(version);
     }
 
     // The call, on what is lent.
     pub fn app_fed(&mut self, version: u16, bytes: &[u8]) -> Passed {
+        let mut app = AppState {
+            frame: self.state.frame,
+            numbers: numbers_of(self.state.numbers),
+        };
         let p = app_feed_in(
             setup_of(self.setup, version),
-            numbers_of(self.numbers),
-            &mut self.frame,
+            &mut app,
             bytes,
             lend(&mut self.record, self.lent.record),
             lend(&mut self.room, self.lent.room),
         );
-        Passed {
-            numbers: kept(p.numbers),
-            taken: p.taken,
-            answer: p.answer,
-        }
+        self.keep(app);
+        p
     }
 }

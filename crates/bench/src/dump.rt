@@ -14,7 +14,7 @@ fn summed(out: &mut impl Write, name: &str, s: &[u8]) -> io::Result<()> {
 
 impl Bench {
     pub fn show(&self, out: &mut impl Write) -> io::Result<()> {
-        let n = self.numbers;
+        let n = self.state.numbers;
         summed(out, "flash", first(&self.flash, self.lent.flash))?;
         writeln!(out, "record{}", Tail(first(&self.record, self.lent.record)))?;
         write!(out, "state {} {} ", n.got, n.fill)?;
@@ -24,7 +24,7 @@ impl Bench {
             write!(out, "{}", n.next)?;
         }
         writeln!(out, " {} {}", n.selected as u8, !n.closed as u8)?;
-        writeln!(out, "data{}", Tail(&self.frame[10..62]))?;
+        writeln!(out, "data{}", Tail(&self.state.frame[10..62]))?;
         summed(out, "room", first(&self.room, self.lent.room))
     }
 }

@@ -22,9 +22,7 @@ impl Bench {
             Some(version) => self.app_fed(version, bytes),
             None => feed_in(
                 self.setup,
-                self.numbers,
-                &mut self.frame,
-                &mut self.page,
+                &mut self.state,
                 bytes,
                 lend(&mut self.flash, self.lent.flash),
                 lend(&mut self.record, self.lent.record),
@@ -38,7 +36,6 @@ impl Bench {
         let p = self.fed(bytes);
         let taken = p.taken;
         let answer = p.answer;
-        self.numbers = p.numbers;
         let said = numbers_of(answer);
         let mode = starting::name(starting::mode_of(said.mode));
         let reason = silence::reason(answer);

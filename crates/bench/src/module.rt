@@ -1,11 +1,11 @@
 // The module on the bench, and how much of its buffers the calls are lent. What the letters do to it stands in the other files.
 use crate::{limits, numbers};
 use device_start::new_state;
-use device_state::{Numbers, PRESENT, Setup, State};
+use device_state::{PRESENT, Setup, State};
 use store_flash::cells::{byte_at, lay};
-use store_flash::storage::{PAGE_SIZE, Page};
+use store_flash::storage::PAGE_SIZE;
 use store_record::rewrite;
-use wire_frames::frame::{FRAME, Frame, FrameBytes};
+use wire_frames::frame::{FRAME, Frame};
 use wire_numbers::COMPAT_UNSET;
 
 // How much is lent of each buffer.
@@ -20,9 +20,7 @@ pub struct Lent {
 pub struct Bench {
     pub setup: Setup,
     // The state, of the bootloader or of the app.
-    pub frame: FrameBytes,
-    pub page: Page,
-    pub numbers: Numbers,
+    pub state: State,
     // The version of the app, while it runs.
     pub app: Option<u16>,
     pub flash: Vec<u8>,
@@ -72,14 +70,9 @@ impl Bench {
     // A bench over a flash's buffer.
     pub fn new(flash: Vec<u8>) -> Bench {
         let setup = listening();
-        let state = new_state(false);
-        let frame = state.frame;
-        let page = state.page;
         let mut bench = Bench {
             setup,
-            frame,
-            page,
-            numbers: state.numbers,
+            state: new_state(false),
             app: None,
             flash,
             record: [0xFF; limits::RECORD],
@@ -113,22 +106,18 @@ impl Bench {
 
     // The bootloader's state is the bench's from now on.
     pub fn adopt(&mut self, state: State) {
-        let frame = state.frame;
-        let page = state.page;
-        self.frame = frame;
-        self.page = page;
-        self.numbers = state.numbers;
+        self.state = state;
         self.app = None;
     }
 
     // A number of the state; field 4 is whether the module is open.
     pub fn set(&mut self, field: u8, value: u32) {
         match field {
-            0 => self.numbers.got = value as usize,
-            1 => self.numbers.fill = value as usize,
-            2 => self.numbers.next = value,
-            3 => self.numbers.selected = value == 1,
-            _ => self.numbers.closed = value == 0,
+            0 => self.state.numbers.got = value as usize,
+            1 => self.state.numbers.fill = value as usize,
+            2 => self.state.numbers.next = value,
+            3 => self.state.numbers.selected = value == 1,
+            _ => self.state.numbers.closed = value == 0,
         }
     }
 }
