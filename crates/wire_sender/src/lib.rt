@@ -19,8 +19,8 @@ fn copy_out(f: &[u8], k: usize, room: &mut [u8])
 }
 
 // AA 55 at the start and the CRC right after n bytes of payload, for one write of the whole.
-fn seal(f: &mut [u8], n: usize)
-    requires { (n ≤ 52) × (length f.old ≡ 64) }
+fn seal(f: &mut FrameBytes, n: usize)
+    requires { n ≤ 52 }
     ensures { f.new ≡ sealed n f.old }
 {
     f[0] = Sync::VALID.0;
