@@ -63,7 +63,7 @@ pub enum Stop {
 }
 
 // What a call on a lent frame gives: how many bytes have begun, how many were taken, how it stopped.
-#[derive(Clone, Copy)]
+#[derive(Clone, Copy, Debug, PartialEq, Eq)]
 pub struct Passed {
     pub got: usize,
     pub taken: usize,

@@ -8,7 +8,7 @@ ghost use Rattle.wire_info.specs.Info.{info_bytes, info_laid_by, info_read};
 use wire_numbers::le;
 
 // What Info replies.
-#[derive(Clone, Copy)]
+#[derive(Clone, Copy, Debug, PartialEq, Eq)]
 pub struct InfoData {
     pub capacity: u32,
     pub erase_size: u16,

@@ -91,6 +91,7 @@ pub fn crc16(crc: u16, bytes: &[u8]) -> u16
 {
     let mut c = crc;
     let mut i = 0;
+    // Eight places by their index: so the compiler makes one load of them (`high_first`), and a part by `chunks_exact` would stand behind an Option.
     while bytes.len() - i >= 8 {
         c = eight(
             c,

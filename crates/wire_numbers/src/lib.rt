@@ -21,7 +21,7 @@ ghost use Rattle.wire_numbers.specs.Key.{fnv_step, key_of};
 use std::num::wrapping_add_u32;
 
 // Flags of a Write.
-#[derive(Clone, Copy)]
+#[derive(Clone, Copy, Debug, PartialEq, Eq)]
 pub struct WriteFlags {
     pub bits: u8,
 }
@@ -38,7 +38,7 @@ impl WriteFlags {
 }
 
 // Flags of a Reset.
-#[derive(Clone, Copy)]
+#[derive(Clone, Copy, Debug, PartialEq, Eq)]
 pub struct ResetFlags {
     pub bits: u8,
 }
@@ -88,7 +88,7 @@ impl ResetFlags {
 }
 
 // A version of 16 bits in its parts.
-#[derive(Clone, Copy)]
+#[derive(Clone, Copy, Debug, PartialEq, Eq)]
 pub struct Version {
     pub major: u8,
     pub minor: u8,

@@ -194,6 +194,7 @@ fn take_turn(f: &mut FrameBytes, got: u32, device: bool, bytes: &[u8], at: usize
     }
 }
 
+// A match by name: what `ended` of the definitions says of each, and the edit mismatch_told_good turns one of them.
 fn told(k: Kind) -> Stop
     ensures { said_of result ≡ ended k }
 {
@@ -212,6 +213,7 @@ fn pass(f: &mut FrameBytes, start: usize, device: bool, bytes: &[u8]) -> Passed
         out_of 52 f.old (length bytes.now) (read_frame 52 device (begun 52 f.old start ++ bytes.now)) }
 {
     let mut got = start as u32;
+    // A turn takes as many bytes as it can, so there is no count of turns to go over.
     let mut i: usize = 0;
     while i < bytes.len() {
         let t = take_turn(f, got, device, bytes, i);
