@@ -50,6 +50,7 @@ fn ready(meta: &mut [u8])
 }
 
 // A range that does not fit changes nothing, the record neither.
+#[tactic(auto, unfolding(crate::specs::Erase::erase_of))]
 pub fn cmd_erase(
     erase_size: usize,
     capacity: usize,

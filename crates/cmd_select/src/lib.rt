@@ -2,7 +2,7 @@
 
 #![tactic(auto)]
 
-ghost use Rattle.std.specs.Prelude.{◌≡◌, ◌&&◌, ◌+◌, ◌-◌, ◌%◌, ◌^◌, ◌≤◌, ◌<◌, eqb, length, take};
+ghost use Rattle.std.specs.Prelude.{◌≡◌, ◌&&◌, ◌%◌, ◌^◌, ◌≤◌, ◌<◌, eqb, length, take};
 ghost use Rattle.cmd_select.specs.Select.{seed_of, bit_count_of, prefix_of, matches, slot_of, copied, select_of, choice_of};
 
 use wire_frames::frame::FrameBytes;
@@ -10,13 +10,6 @@ use wire_numbers::crc;
 
 // Largest unique id, in bytes.
 pub const MAX_UID_LEN: usize = 16;
-
-// How many of the bits still to compare lie in the next byte.
-fn at_most_8(rem: u32) -> u32
-    ensures { result + (rem - 8) ≡ rem }
-{
-    rem.min(8)
-}
 
 // The difference so far, and that of one byte of the id and of the prefix in its n low bits. The mask is u32: of a byte a shift by 8 is refused.
 fn differ(diff: u32, u: u8, p: u8, n: u32) -> u32
@@ -26,13 +19,6 @@ fn differ(diff: u32, u: u8, p: u8, n: u32) -> u32
     diff | (((u ^ p) as u32) & (0xFFu32 >> (8 - n)))
 }
 
-// The bit count, as wide as the mask.
-fn wide(x: u8) -> u32
-    ensures { result ≡ x }
-{
-    x as u32
-}
-
 // One pass compares the prefix and copies the id over it for the reply: a byte of the prefix is read before the byte two places before it is
 // written. Bits left after the id mean a prefix longer than the id, which matches nothing.
 fn pass(uid: &[u8], f: &mut FrameBytes) -> bool
@@ -40,10 +26,10 @@ fn pass(uid: &[u8], f: &mut FrameBytes) -> bool
     ensures { (result ≡ matches (bit_count_of f.old) uid.now (prefix_of f.old)) ×
         (f.new ≡ copied uid.now f.old) }
 {
-    let mut rem = wide(f[11]);
+    let mut rem = u32::from(f[11]);
     let mut diff: u32 = 0;
     for (i, &u) in uid.iter().enumerate() {
-        let n = at_most_8(rem);
+        let n = rem.min(8);
         diff = differ(diff, u, f[12 + i], n);
         f[10 + i] = u;
         rem -= n;
@@ -80,19 +66,11 @@ fn select_uid(uid: &[u8], f: &mut FrameBytes) -> Option<u8>
     None
 }
 
-// How many bytes of the 16 are the id.
-fn at_most_16(n: usize) -> usize
-    ensures { result + (n - 16) ≡ n }
-{
-    n.min(MAX_UID_LEN)
-}
-
 // Handles `Select`: the data area holds seed, bit count, prefix, as it stands, and the id is copied over it, match or not. The id is the first
 // `len` bytes of `id`, all 16 if `len` is above 16. A match selects the device, which replies with its id after a wait of so many byte-times; without one it is
 // deselected, and silent. A length of 0, the unaddressed device's, never gets here; of no id at all a count of 0 matches.
 pub fn select(id: [u8; 16], len: usize, f: &mut FrameBytes) -> Option<u8>
     ensures { choice_of result f.new ≡ select_of (take len id) f.old }
 {
-    let n = at_most_16(len);
-    select_uid(&id[..n], f)
+    select_uid(&id[..len.min(MAX_UID_LEN)], f)
 }

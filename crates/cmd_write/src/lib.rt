@@ -154,6 +154,7 @@ fn poured(d: &[u8], start: Run, page: &mut Page, flash: &mut [u8]) -> Run
 }
 
 // The bytes of a Write that fits.
+#[tactic(auto, unfolding(crate::specs::Write::written_of))]
 fn written(f: &FrameBytes, page: &mut Page, flash: &mut [u8]) -> Run
     ensures { running flash.new page.new result.fill result.next result.failed ≡
         written_of 64 f.now (begin 64 f.now flash.old page.old) }

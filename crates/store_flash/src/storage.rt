@@ -41,6 +41,7 @@ fn blank(flash: &mut [u8], from: usize, to: usize)
 }
 
 // At most a page, from the start of a page.
+#[tactic(auto, unfolding(crate::specs::Flash::page_written))]
 pub fn write(flash: &mut [u8], offset: usize, bytes: &[u8]) -> Result<(), FlashError>
     ensures { leaves result flash.new ≡ page_written 64 flash.old offset bytes.now }
 {
@@ -71,6 +72,7 @@ pub fn write_part(flash: &mut [u8], offset: usize, bytes: &[u8], n: usize) -> Re
 }
 
 // Whole pages.
+#[tactic(auto, unfolding(crate::specs::Flash::pages_erased))]
 pub fn erase(flash: &mut [u8], from: usize, to: usize) -> Result<(), FlashError>
     ensures { leaves result flash.new ≡ pages_erased 64 flash.old from to }
 {

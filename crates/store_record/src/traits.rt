@@ -15,6 +15,7 @@ pub enum BootState {
 
 impl BootState {
     // A byte that is none of the three reads as Updating: what is not known to be whole does not start.
+    #[tactic(auto, unfolding(crate::specs::State::state_read))]
     pub fn from_u8(v: u8) -> BootState
         ensures { state_byte result ≡ state_read v }
     {

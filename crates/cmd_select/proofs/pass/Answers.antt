@@ -11,10 +11,11 @@ use Rattle.cmd_select.proofs.pass.Goals as goal
 
 pub loop-i-init : goal.loop-i-init
 loop-i-init c =
-    let a = c.args in (
+    let a = c.args in
+    let e = c.from-rem.ensures in (
       omega arith,
-      rw sub-zero c.wide-rem.ensures,
-      first a.uid.now (prefix_of a.f.now) (bit_count_of a.f.now) c.wide-rem.result c.wide-rem.ensures,
+      rw sub-zero e,
+      first a.uid.now (prefix_of a.f.now) (bit_count_of a.f.now) _ e,
       paste-zero a.f.now 10 a.uid.now,
     )
 
@@ -23,12 +24,12 @@ loop-i-preserved c =
     let a = c.args in
     let v = c.loop-i in
     let l : length a.f.now ≡ 64 = search rules in
-    let n = c.at_most_8-n in (
+    let n = c.min-n in (
       omega arith,
       omega arith,
       turn a.uid.now a.f.now v.f (bit_count_of a.f.now) v.rem v.i n.result v.diff c.differ-diff.result (omega arith)
           v.invariant.0 (omega arith)
-          v.invariant.1 v.invariant.2 v.invariant.3 n.ensures c.differ-diff.ensures,
+          v.invariant.1 v.invariant.2 v.invariant.3 (omega arith) c.differ-diff.ensures,
       rw (v.invariant.3, add-one) (paste-suc a.f.now 10 a.uid.now v.i 0 (omega arith) (omega arith)),
     )
 
