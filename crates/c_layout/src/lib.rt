@@ -3,7 +3,8 @@
 
 #![tactic(auto)]
 
-ghost use Rattle.std.specs.Prelude.{◌≡◌, ◌++◌, ◌∷◌, [], eqb, length};
+ghost use Rattle.std.specs.Prelude.{◌≡◌, ◌++◌, ◌∷◌, [], ◌≤◌, eqb, length};
+ghost use Rattle.std.proofs.Math.Seq.{paste};
 ghost use Rattle.laws.specs.Low.{low_bytes};
 ghost use Rattle.device_start.specs.Starts.{new_state};
 ghost use Rattle.device_replies.specs.Answers.{mute};
@@ -86,39 +87,47 @@ pub fn new_bytes(closed: bool) -> [u8; STATE_SIZE]
     new
 }
 
-// What a call said: the first half of an answer.
-fn said_bytes(said: Said) -> [u8; 8]
-    ensures { result ≡
-        said.number ∷ said.mode ∷ (low_bytes 2 said.len ++ (said.wait ∷ said.why ∷ 0 ∷ 0 ∷ [])) }
+// Byte by byte, since arrays of eight copied to their places are 278 bytes more of any setup's code on rv32ec (4,572 for 4,294).
+// What a call said, in the first half of an answer.
+fn lay_said(a: &mut [u8], said: Said)
+    requires { 16 ≤ length a.old }
+    ensures { a.new ≡
+        paste a.old 0 (said.number ∷ said.mode ∷ (low_bytes 2 said.len ++ (said.wait ∷ said.why ∷ 0 ∷ 0 ∷ []))) 8 }
 {
-    [
-        said.number,
-        said.mode,
-        (said.len % 256) as u8,
-        (said.len / 256 % 256) as u8,
-        said.wait,
-        said.why,
-        0,
-        0,
-    ]
+    a[0] = said.number;
+    a[1] = said.mode;
+    a[2] = (said.len % 256) as u8;
+    a[3] = (said.len / 256 % 256) as u8;
+    a[4] = said.wait;
+    a[5] = said.why;
+    a[6] = 0;
+    a[7] = 0;
 }
 
-// How many bytes were taken: the second half.
-fn taken_bytes(taken: usize) -> [u8; 8]
-    ensures { result ≡ low_bytes 8 taken }
+// How many bytes were taken, in the second.
+fn lay_taken(a: &mut [u8], taken: usize)
+    requires { 16 ≤ length a.old }
+    ensures { a.new ≡ paste a.old 8 (low_bytes 8 taken) 8 }
 {
-    taken.to_le_bytes()
+    a[8] = (taken % 256) as u8;
+    a[9] = (taken / 256 % 256) as u8;
+    a[10] = (taken / 256 / 256 % 256) as u8;
+    a[11] = (taken / 256 / 256 / 256 % 256) as u8;
+    a[12] = (taken / 256 / 256 / 256 / 256 % 256) as u8;
+    a[13] = (taken / 256 / 256 / 256 / 256 / 256 % 256) as u8;
+    a[14] = (taken / 256 / 256 / 256 / 256 / 256 / 256 % 256) as u8;
+    a[15] = (taken / 256 / 256 / 256 / 256 / 256 / 256 / 256 % 256) as u8;
 }
 
-// The answer laid where there is room for one, and its number.
+// The answer laid where there is room for one, byte by byte, and its number.
 pub fn lay_answer(a: &mut [u8], said: Said, taken: usize) -> u8
     ensures { (result ≡ said.number) × (a.new ≡ answered (told_by said) taken a.old) }
 {
     if a.len() < ANSWER_SIZE {
         return said.number;
     }
-    a[..8].copy_from_slice(&said_bytes(said));
-    a[8..ANSWER_SIZE].copy_from_slice(&taken_bytes(taken));
+    lay_said(a, said);
+    lay_taken(a, taken);
     said.number
 }
 

@@ -1,6 +1,7 @@
-use Rattle.std.proofs.Common.{ℕ, ◌≡◌, refl, ap, ◌∙◌, List, [], ◌∷◌, ◌++◌, drop}
-use Rattle.std.proofs.Math.Seq.{paste}
-use Rattle.std.proofs.lemmas.Slice.{put_mid-paste}
+use mathlib.Core.Path.{refl, ap, ◌∙◌}
+use mathlib.Core.List.{List, [], ◌∷◌, ◌++◌}
+use Prim.Native.Nat.{ℕ}
+use lib.Seq.{paste}
 use Rattle.laws.specs.Low.{low_bytes}
 use Rattle.device_replies.specs.Inner.{told_by}
 use Rattle.c_layout.proofs.Answering.{two_halves, answer_short, answer_laid}
@@ -14,10 +15,8 @@ returns c =
     let a = c.args in
     let n = a.said in
     let s : List ℕ = n.number ∷ n.mode ∷ (low_bytes 2 n.len ++ (n.wait ∷ n.why ∷ 0 ∷ 0 ∷ [])) in
-    let t : List ℕ = low_bytes 8 a.taken in
-    let first : c.copy_from_slice.new.self ≡ s = c.copy_from_slice.ensures.after ∙ c.said_bytes.ensures in
-    let second : c.copy_from_slice-2.new.self ≡ t = c.copy_from_slice-2.ensures.after ∙ c.taken_bytes.ensures in (
+    let t : List ℕ = low_bytes 8 a.taken in (
       refl,
-      put_mid-paste 8 8 _ _ t 8 second refl refl ∙ ap (λ (v : List ℕ). paste (v ++ drop 8 a.a.now) 8 t 8) first ∙ two_halves s t a.a.now refl refl ∙
+      c.lay_taken.ensures ∙ ap (λ (v : List ℕ). paste v 8 t 8) c.lay_said.ensures ∙ two_halves s t a.a.now refl refl ∙
           answer_laid (told_by a.said) a.taken a.a.now c.if-a-lt-ANSWER_SIZE.false,
     )
