@@ -1,4 +1,5 @@
-// Numbers of two, three and four bytes, low byte first. Ours: tinyboot reads them through unions.
+// Numbers of two, three and four bytes, low byte first. Ours: tinyboot reads them through unions. A function for each size: three bytes are no type of
+// their own, and the builds for controllers keep `read32` apart by its name.
 ghost use Rattle.std.specs.Prelude.{◌≡◌, [], ◌∷◌};
 ghost use Rattle.laws.specs.Low.{low_first, low_bytes};
 

@@ -24,6 +24,8 @@ pub struct Taken {
     pub stop: Stop,
 }
 
+// The functions below are lent the frame and handed the count: a struct of both would be handed on, and given back, with each byte.
+
 // What a byte does: how many bytes have begun, and how the frame has ended, where it has. Counts within a frame are u32, which costs a small controller less.
 #[derive(Clone, Copy)]
 struct Step {
