@@ -1,23 +1,20 @@
 -- What the calls leave, case by case, over plain variables.
-use Prim.Native.Nat.{ℕ, ◌^◌, ◌≤◌, ◌<◌}
+use Prim.Native.Nat.{ℕ, ◌≤◌, ◌<◌}
 use mathlib.Core.Path.{◌≡◌, refl, ap, ◌∙◌}
 use mathlib.Core.List.{List, [], ◌∷◌, ◌++◌}
-use borrow.Author.Tests.{lt-ltb, le-ltb, eq-eqb, ne_eqb}
+use borrow.Author.Tests.{lt-ltb, le-ltb}
 use lib.ListN.{length, get_or}
-use lib.Dec.{eqb}
-use Rattle.laws.specs.Pick.{pick}
 use Rattle.laws.specs.Low.{low_bytes}
 use Rattle.laws.specs.Over.{over}
-use Rattle.wire_numbers.specs.declared.Cmd.{Cmd}
 use Rattle.std.specs.Prelude.{Result}
 use Rattle.desk_requests.specs.declared.RequestError.{RequestError}
-use Rattle.desk_requests.specs.Requests.{asks, Wrote, written_number, written_to, request_of}
+use Rattle.desk_requests.specs.Requests.{Wrote, written_number, written_to}
 use Rattle.desk_replies.specs.declared.Head.{Head}
 use Rattle.desk_replies.specs.declared.Contents.{Contents}
 use Rattle.desk_replies.specs.declared.Heard as code
 use Rattle.desk_replies.specs.Replies.{number_of, told_of, hearing_to, hear_part_of}
 use Rattle.c_desk.proofs.Laid.{eight}
-use Rattle.c_desk.specs.Desk.{asked, c_asked, after_hear, bytes_of, heard_bytes, heard_to, unheard_of, c_heard}
+use Rattle.c_desk.specs.Desk.{asked, c_asked, after_hear, heard_bytes, heard_to, unheard_of, c_heard}
 use Rattle.c_desk.specs.Inner.{heard_number, heard_head, heard_kind, laid_bytes}
 
 -- a request, of its number

@@ -1,16 +1,13 @@
 -- Two captures compared: what a turn of the loop keeps, and what is told where it ends.
 use Prim.Native.Nat.{ℕ, suc, ◌+◌, ◌-◌, ◌≤◌, ◌<◌}
 use mathlib.Core.Path.{◌≡◌, refl, ap, ap₂, sym, ◌∙◌}
-use mathlib.Core.Bool.{Bool, true, false, ◌&&◌, not}
+use mathlib.Core.Bool.{Bool, true, false, ◌&&◌}
 use mathlib.Core.List.{List, [], ◌∷◌}
 use native.Mathlib.Omega.{arith}
-use native.Mathlib.Numerals.{add-one}
-use borrow.Author.Tests.{eq-eqb, ne_eqb, eqb-true, lt-ltb}
-use lib.ListN.{length, get_or, take, drop, length-drop, drop_of_length-le}
-use lib.Seq.{drop-cons}
+use borrow.Author.Tests.{eqb-true}
+use lib.ListN.{length, take, drop, length-drop}
 use lib.Dec.{eqb}
 use Rattle.laws.proofs.Bools.{and_both}
-use Rattle.std.specs.Prelude.{Some, None, Ok, Err}
 use Rattle.desk_captures.specs.declared.Compared.{Compared}
 use Rattle.desk_captures.specs.Captures.{Front, nothing, stands, fault, front_of, found_by, next_at, record_by, after_by, after_at, part_at}
 use Rattle.std.specs.Cmp.Lexicographic.{pointwise}

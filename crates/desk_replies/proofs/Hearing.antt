@@ -1,12 +1,12 @@
 -- What the desk's functions answer, case by case, over plain variables.
-use Prim.Native.Nat.{ℕ, ◌+◌, ◌-◌, ◌≤◌, ◌<◌}
+use Prim.Native.Nat.{ℕ, ◌+◌, ◌-◌, ◌<◌}
 use mathlib.Core.Path.{◌≡◌, refl, ap, sym, ◌∙◌}
 use mathlib.Core.Bool.{Bool, true, false, ◌&&◌}
-use mathlib.Core.List.{List, [], ◌∷◌, ◌++◌, append-nil}
+use mathlib.Core.List.{List, [], ◌∷◌}
 use native.Mathlib.Omega.{arith}
-use borrow.Author.Tests.{ne_eqb, eq-eqb, eqb-true, lt-leb, le-leb}
-use lib.ListN.{length, get_or, take, drop, replicate, length-drop, drop_of_length-le}
-use lib.Seq.{take_all, drop-cons, length-take-le}
+use borrow.Author.Tests.{ne_eqb, eq-eqb, eqb-true}
+use lib.ListN.{length, get_or, take, drop, length-drop, drop_of_length-le}
+use lib.Seq.{take_all, drop-cons}
 use lib.Dec.{eqb, leb}
 use Rattle.laws.specs.Low.{low_first}
 use Rattle.laws.proofs.Bools.{and_both}
@@ -14,7 +14,6 @@ use Rattle.laws.proofs.Pick.{yes, no}
 use Rattle.wire_info.specs.Info.{info_read}
 use Rattle.wire_info.specs.declared.InfoData.{InfoData}
 use Rattle.wire_frames.specs.Fields.{len_of, data_of, status_of}
-use Rattle.wire_frames.specs.declared.frame.Kind.{Kind}
 use Rattle.wire_frames.specs.declared.frame.Stop.{Stop}
 use Rattle.wire_frames.specs.Stored.{said_of, seen, read_of}
 use Rattle.wire_frames.proofs.Parts.{part_of_whole}

@@ -1,4 +1,4 @@
-use Rattle.std.proofs.Common.{rules, ◌≡◌}
+use Rattle.std.proofs.Common.{rules}
 use Rattle.wire_frames.specs.Stored.{part_of}
 use Rattle.desk_replies.specs.Replies.{hear_part_of}
 use Rattle.desk_replies.proofs.Hearing.{part_heard}
