@@ -9,7 +9,7 @@ ghost use Rattle.app_client.specs.Feed.{taken_of, app_fed_of};
 ghost use Rattle.app_client.specs.Inner.{passed_to, fed_to};
 
 use app_state::{AppSetup, AppState};
-use device_feed::{Fed, Passed, kind_of, refused};
+use device_feed::{Fed, Passed, kind_of};
 use device_replies::Answer;
 
 // A call that is not refused.
@@ -54,7 +54,7 @@ pub fn app_feed_in(
     if let Err(refusal) = app_state::app_refuses(setup, &state.frame, n, meta.len(), reply.len()) {
         return Passed {
             taken: 0,
-            answer: refused(refusal),
+            answer: Answer::Refused(refusal),
         };
     }
     pass(setup, state, bytes, meta, reply)

@@ -4,13 +4,11 @@
 
 ghost use Rattle.std.specs.Prelude.{◌≡◌, true};
 ghost use Rattle.wire_frames.specs.Stored.{well_of, said_of};
-ghost use Rattle.device_state.specs.Refusals.{refusal_number};
-ghost use Rattle.device_replies.specs.Answers.{mute, told_of};
+ghost use Rattle.device_replies.specs.Answers.{told_of};
 ghost use Rattle.device_feed.specs.Feed.{taken_of, fed_of};
 ghost use Rattle.device_feed.specs.Inner.{passed_to, fed_to, kind_of};
 
 use device_replies::Answer;
-use device_state::refusal::Refusal;
 use device_state::{Setup, State, refusal};
 use wire_frames::frame::{Kind, Stop};
 
@@ -27,20 +25,6 @@ pub struct Fed<S> {
 pub struct Passed {
     pub taken: usize,
     pub answer: Answer,
-}
-
-// The answer that is this refusal.
-pub fn refused(refusal: Refusal) -> Answer
-    ensures { told_of result ≡ mute (refusal_number refusal) }
-{
-    match refusal {
-        Refusal::BadSetup => Answer::BadSetup,
-        Refusal::BadState => Answer::BadState,
-        Refusal::BadFlash => Answer::BadFlash,
-        Refusal::BadRecord => Answer::BadRecord,
-        Refusal::NoRoom => Answer::NoRoom,
-        Refusal::Closed => Answer::Closed,
-    }
 }
 
 // How a frame has ended, where one has.
@@ -86,6 +70,7 @@ fn pass(
 }
 
 // `feed` on a state that is lent: for who keeps it in place and feeds it byte by byte.
+#[tactic(auto, using(crate::proofs::Feeding::call_refused))]
 pub fn feed_in(
     setup: Setup,
     state: &mut State,
@@ -102,7 +87,7 @@ pub fn feed_in(
     if let Err(refusal) = refusal::refuses(setup, f, n, flash.len(), meta.len(), reply.len()) {
         return Passed {
             taken: 0,
-            answer: refused(refusal),
+            answer: Answer::Refused(refusal),
         };
     }
     pass(setup, state, bytes, flash, meta, reply)

@@ -12,7 +12,7 @@ ghost use Rattle.device_in_place.specs.On.{rest_in, world_in, on_by, fed_on};
 ghost use Rattle.device_in_place.specs.Byte.{plain_at, laid_to, lay_byte_of, clear_of, byte_on};
 ghost use Rattle.device_in_place.specs.Inner.{called_on, refusal_on};
 
-use device_feed::{Passed, kind_of, refused};
+use device_feed::{Passed, kind_of};
 use device_replies::Answer;
 use device_state::refusal::Refusal;
 use device_state::{Numbers, Setup, State, refusal};
@@ -158,7 +158,7 @@ pub fn feed_on(
     };
     match refuses(setup, s, *n, flash.len(), meta.len(), reply.len()) {
         Ok(()) => r = pass(setup, n, s, bytes, flash, meta, reply),
-        Err(refusal) => r.answer = refused(refusal),
+        Err(refusal) => r.answer = Answer::Refused(refusal),
     }
     r
 }

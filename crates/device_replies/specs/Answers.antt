@@ -2,6 +2,7 @@
 -- and the reason of silence.
 use Rattle.std.specs.Prelude.{ℕ}
 use Rattle.wire_numbers.specs.Names.{mode_number}
+use Rattle.device_state.specs.Refusals.{refusal_number}
 use Rattle.device_turns.specs.Turns.{why_number}
 use Rattle.device_replies.specs.declared.Answer.{Answer}
 
@@ -31,9 +32,4 @@ told_of Answer.Quiet = mute 0
 told_of (Answer.Silent why) = silence (why_number why)
 told_of (Answer.Reply len wait) = reply len wait
 told_of (Answer.Restart len mode) = restart len (mode_number mode)
-told_of Answer.BadSetup = mute 10
-told_of Answer.BadState = mute 11
-told_of Answer.BadFlash = mute 12
-told_of Answer.BadRecord = mute 13
-told_of Answer.NoRoom = mute 14
-told_of Answer.Closed = mute 15
+told_of (Answer.Refused refusal) = mute (refusal_number refusal)

@@ -10,6 +10,7 @@ ghost use Rattle.device_replies.specs.Answers.{mute, told_of};
 ghost use Rattle.device_replies.specs.Inner.{told_by};
 ghost use Rattle.device_replies.specs.Reply.{headed, spoken, reply_of};
 
+use device_state::refusal::{Refusal, refusal_number};
 use device_turns::Silence;
 use wire_frames::frame::FrameBytes;
 use wire_numbers::{ResetFlags, RunMode, Status, le};
@@ -22,12 +23,7 @@ pub enum Answer {
     Silent { why: Silence },
     Reply { len: usize, wait: u8 },
     Restart { len: usize, mode: RunMode },
-    BadSetup,
-    BadState,
-    BadFlash,
-    BadRecord,
-    NoRoom,
-    Closed,
+    Refused(Refusal),
 }
 
 // An answer in numbers.
@@ -88,12 +84,7 @@ pub fn numbers_of(answer: Answer) -> Said
             wait: 0,
             why: 0,
         },
-        Answer::BadSetup => unsaid(10),
-        Answer::BadState => unsaid(11),
-        Answer::BadFlash => unsaid(12),
-        Answer::BadRecord => unsaid(13),
-        Answer::NoRoom => unsaid(14),
-        Answer::Closed => unsaid(15),
+        Answer::Refused(refusal) => unsaid(refusal_number(refusal)),
     }
 }
 

@@ -63,7 +63,7 @@ fn tell(out: &mut impl Write, at: u64, answer: Answer, status: u8) -> io::Result
             writeln!(out, "{at} {status}")?;
             Ok(false)
         }
-        _ => Ok(false),
+        Answer::Refused(_) => Ok(false),
     }
 }
 

@@ -89,22 +89,19 @@ answer_from t =
     (pick (eqb t.number 1) (Answer.Silent (why_from t.why))
     (pick (eqb t.number 2) (Answer.Reply t.len t.wait)
     (pick (eqb t.number 3) (Answer.Restart t.len (mode_from t.mode))
-    (pick (eqb t.number 10) Answer.BadSetup
-    (pick (eqb t.number 11) Answer.BadState
-    (pick (eqb t.number 12) Answer.BadFlash
-    (pick (eqb t.number 13) Answer.BadRecord (pick (eqb t.number 14) Answer.NoRoom Answer.Closed))))))))
+    (Answer.Refused (refusal_from t.number)))))
 
 answer_back : (a : Answer) → answer_from (told_of a) ≡ a
 answer_back Answer.Quiet = refl
 answer_back (Answer.Silent why) = ap Answer.Silent (why_back why)
 answer_back (Answer.Reply len wait) = refl
 answer_back (Answer.Restart len mode) = ap (Answer.Restart len) (mode_back mode)
-answer_back Answer.BadSetup = refl
-answer_back Answer.BadState = refl
-answer_back Answer.BadFlash = refl
-answer_back Answer.BadRecord = refl
-answer_back Answer.NoRoom = refl
-answer_back Answer.Closed = refl
+answer_back (Answer.Refused Refusal.BadSetup) = refl
+answer_back (Answer.Refused Refusal.BadState) = refl
+answer_back (Answer.Refused Refusal.BadFlash) = refl
+answer_back (Answer.Refused Refusal.BadRecord) = refl
+answer_back (Answer.Refused Refusal.NoRoom) = refl
+answer_back (Answer.Refused Refusal.Closed) = refl
 
 pub answer_apart : (a b : Answer) → told_of a ≡ told_of b → a ≡ b
 answer_apart = apart told_of answer_from answer_back

@@ -141,9 +141,6 @@ dispatch κs a o o' p q i =
     let e = plain p q in
     (answer_apart o.0 o'.0 (λ j. (e j).told) i, (tt, (tt, ((e i).left.state, ((e i).left.flash, ((e i).left.meta, ((e i).room, tt)))))))
 
-pub refused : Determined device_feed_contracts.refused.ended device_feed.refused.Reads.Post
-refused κs a o o' p q i = (answer_apart o.0 o'.0 (plain p q) i, o.1)
-
 pub kind_of : Determined device_feed_contracts.kind_of.ended device_feed.kind_of.Reads.Post
 kind_of κs a o o' p q i = (plain p q i, o.1)
 

@@ -6,7 +6,7 @@ pub returns-in-Err : goal.returns-in-Err
 returns-in-Err c =
     let a = c.args in
     let w : AppWorld = record { state = a.state.now; meta = a.meta.now } in
-    rw c.refused.ensures (call_refused 52 64 a.setup w a.bytes.now a.reply.now _ c.in-Err.ensures)
+    call_refused 52 64 a.setup w a.bytes.now a.reply.now _ c.in-Err.ensures
 
 pub pass-requires : goal.pass-requires
 pass-requires c =

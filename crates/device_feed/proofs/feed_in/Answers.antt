@@ -1,12 +1,6 @@
-use Rattle.device_feed.proofs.Feeding.{allowed, call_taken, call_refused}
+use Rattle.device_feed.proofs.Feeding.{allowed, call_taken}
 use Rattle.device_state.specs.State.{World}
 use Rattle.device_feed.proofs.feed_in.Goals as goal
-
-pub returns-in-Err : goal.returns-in-Err
-returns-in-Err c =
-    let a = c.args in
-    let w : World = record { state = a.state.now; flash = a.flash.now; meta = a.meta.now } in
-    rw c.refused.ensures (call_refused 52 64 a.setup w a.bytes.now a.reply.now _ c.in-Err.ensures)
 
 pub pass-requires : goal.pass-requires
 pass-requires c =

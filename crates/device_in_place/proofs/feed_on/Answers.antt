@@ -23,5 +23,4 @@ returns-in-Ok c =
 pub returns-in-Err : goal.returns-in-Err
 returns-in-Err c =
     let a = c.args in
-    rw c.refused-r.ensures
-    (on_refused a.setup a.s.now a.n.now a.bytes.now a.flash.now a.meta.now a.reply.now _ c.in-Err.ensures)
+    on_refused a.setup a.s.now a.n.now a.bytes.now a.flash.now a.meta.now a.reply.now _ c.in-Err.ensures

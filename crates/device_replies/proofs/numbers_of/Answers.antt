@@ -21,20 +21,5 @@ returns-in-Reply c = rw c.in-Reply.is refl
 pub returns-in-Restart : goal.returns-in-Restart
 returns-in-Restart c = rw (c.in-Restart.is, c.mode_number.ensures) refl
 
-pub returns-in-BadSetup : goal.returns-in-BadSetup
-returns-in-BadSetup c = told _ _ c.in-BadSetup.is _ c.unsaid-in-BadSetup.ensures
-
-pub returns-in-BadState : goal.returns-in-BadState
-returns-in-BadState c = told _ _ c.in-BadState.is _ c.unsaid-in-BadState.ensures
-
-pub returns-in-BadFlash : goal.returns-in-BadFlash
-returns-in-BadFlash c = told _ _ c.in-BadFlash.is _ c.unsaid-in-BadFlash.ensures
-
-pub returns-in-BadRecord : goal.returns-in-BadRecord
-returns-in-BadRecord c = told _ _ c.in-BadRecord.is _ c.unsaid-in-BadRecord.ensures
-
-pub returns-in-NoRoom : goal.returns-in-NoRoom
-returns-in-NoRoom c = told _ _ c.in-NoRoom.is _ c.unsaid-in-NoRoom.ensures
-
-pub returns-in-Closed : goal.returns-in-Closed
-returns-in-Closed c = told _ _ c.in-Closed.is _ c.unsaid-in-Closed.ensures
+pub returns-in-Refused : goal.returns-in-Refused
+returns-in-Refused c = rw (c.in-Refused.is, ← c.refusal_number.ensures) c.unsaid-in-Refused.ensures
