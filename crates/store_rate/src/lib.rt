@@ -17,7 +17,10 @@ pub fn baud(meta: &[u8], default: BaudRate) -> BaudRate
     ensures { baud_index result ≡ rate_read meta.now (baud_index default) }
 {
     if meta.len() == RECORD {
-        return BaudRate::from_u8(boot_meta_store::baud(meta)).unwrap_or(default);
+        let Some(rate) = BaudRate::from_u8(boot_meta_store::baud(meta)) else {
+            return default;
+        };
+        return rate;
     }
     default
 }
