@@ -28,7 +28,7 @@ fn key_place(size: u32) -> u32
     std::num::wrapping_sub_u32(size, 6)
 }
 
-// Whether the image is for this device.
+// Whether the image is for this device. A test a line, each with its way out: CONTRIBUTING.md reads the proof of it aloud, and one expression is no plainer.
 fn key_fits(key: u32, capacity: usize, flash: &[u8], size: u32) -> bool
     ensures { result ≡ key_fits key capacity flash.now size }
 {

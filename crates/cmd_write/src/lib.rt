@@ -117,6 +117,7 @@ fn fits(capacity: usize, f: &FrameBytes, next: u32) -> bool
 {
     let addr = le::read24(f[4], f[5], f[6]);
     let len = le::read16(f[8], f[9]);
+    // apart from the place: one expression with the choice below in it is no plainer
     if capacity < (addr + len as u32) as usize {
         return false;
     }
@@ -145,6 +146,7 @@ fn poured(d: &[u8], start: Run, page: &mut Page, flash: &mut [u8]) -> Run
     let mut w = start;
     let n = d.len() as u32;
     let mut i: u32 = 0;
+    // a while: a turn takes as many bytes as the page has room for
     while i < n {
         let m = (n - i).min(PAGE - w.fill);
         w = took(w, d, i, m, page, flash);

@@ -129,6 +129,7 @@ pub fn starts_left(trials: u8) -> u32
         return u32::count_ones(left);
     }
     let mut best: u32 = 0;
+    // a while: each turn takes a whole run of ones off, so no count of turns is known
     while left != 0 {
         // the lowest run, moved to the low end: the zeros below it go, and its ones are the zeros of the complement
         let low = left >> u32::trailing_zeros(left);
