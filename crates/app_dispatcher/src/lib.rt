@@ -96,13 +96,7 @@ fn respond(chosen: bool, setup: AppSetup, kind: Kind, f: &mut FrameBytes, meta: 
 fn resets(chosen: bool, kind: Kind, f: &FrameBytes) -> bool
     ensures { result ≡ resets kind chosen f.now }
 {
-    if chosen {
-        return false;
-    }
-    if is_good(kind) {
-        return is_reset(f);
-    }
-    false
+    !chosen && is_good(kind) && is_reset(f)
 }
 
 // The baud is stored unchecked, and only where it differs.
