@@ -1,5 +1,4 @@
-// Bytes as they are printed. `mend` and `replay` print them so too: a crate for these lines alone, with contracts and edits of its own, would be longer than they
-// are.
+// Bytes as they are printed, in `mend` and `replay` too: a crate for these lines alone, with contracts and edits of its own, would be longer than they are.
 use std::fmt;
 
 // Two hexadecimal digits each.

@@ -95,9 +95,9 @@ impl Line {
         }
     }
 
-    // The line of this number, of which nothing has been read.
-    pub fn begin(&mut self, number: u64) {
-        self.number = number;
+    // The line after this one, of which nothing has been read.
+    pub fn begin_next(&mut self) {
+        self.number = self.number.wrapping_add(1);
         self.is_setup = false;
         self.bytes.clear();
         self.high = None;

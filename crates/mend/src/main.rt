@@ -43,7 +43,7 @@ impl Reader {
         for c in part {
             if *c == b'\n' {
                 self.obey(out)?;
-                self.line.begin(self.line.number.wrapping_add(1));
+                self.line.begin_next();
             } else {
                 self.line.read(*c);
             }

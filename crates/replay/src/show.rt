@@ -1,4 +1,4 @@
-// What is printed. Bytes print themselves in `bench` and `mend` too: a crate for these lines alone, with its contracts and edits, would be longer than they are.
+// What is printed. Bytes print themselves, as in `bench` and `mend`: a crate for these lines alone, with contracts and edits of its own, would be longer.
 use std::io::Write;
 use std::{fmt, io};
 
