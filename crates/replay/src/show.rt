@@ -1,4 +1,5 @@
 // What is printed. Bytes print themselves, as in `bench` and `mend`: a crate for these lines alone, with contracts and edits of its own, would be longer.
+use desk_captures::{Fault, fault_number};
 use std::io::Write;
 use std::{fmt, io};
 
