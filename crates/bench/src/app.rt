@@ -42,7 +42,8 @@ fn numbers_of(n: Numbers) -> AppNumbers {
 
 impl Bench {
     fn keep(&mut self, app: AppState) {
-        self.state.frame = app.frame;
+        let frame = app.frame;
+        self.state.frame = frame;
         self.state.numbers = kept(app.numbers);
     }
 
