@@ -22,7 +22,11 @@ impl Bench {
             ),
             Order::StoreRecord => lay(&mut self.record, bytes),
             Order::SetNumber => self.set(byte_at(bytes, 0), numbers::four(bytes, 1)),
-            Order::StoreFrame => poke(&mut self.state.frame, byte_at(bytes, 0) as usize, after(bytes, 1)),
+            Order::StoreFrame => poke(
+                &mut self.state.frame,
+                byte_at(bytes, 0) as usize,
+                after(bytes, 1),
+            ),
             Order::Start => self.start(starting::mode_of(byte_at(bytes, 0)), out)?,
             Order::Feed => self.feed(bytes, out)?,
             Order::FeedOnce => self.feed_once(bytes, out)?,

@@ -92,20 +92,22 @@ fn write(setup: Setup, state: &mut State, flash: &mut [u8], meta: &[u8]) -> Hand
         (write_of 64 setup.capacity state.old.frame flash.old state.old.page state.old.numbers.fill state.old.numbers.next meta.now) }
 {
     let n = state.numbers;
-    let w = cmd_write::cmd_write(setup.capacity, &state.frame, &mut state.page, n.fill, n.next, flash, meta);
+    let w = cmd_write::cmd_write(
+        setup.capacity,
+        &state.frame,
+        &mut state.page,
+        n.fill,
+        n.next,
+        flash,
+        meta,
+    );
     state.numbers.fill = w.fill;
     state.numbers.next = w.next;
     bare(w.status)
 }
 
 // A command carried out. On an unaddressed device Select is none; an addressed one has taken it before.
-fn carry(
-    setup: Setup,
-    cmd: Cmd,
-    state: &mut State,
-    flash: &mut [u8],
-    meta: &mut [u8],
-) -> Handled
+fn carry(setup: Setup, cmd: Cmd, state: &mut State, flash: &mut [u8], meta: &mut [u8]) -> Handled
     ensures { handled_to result state.new flash.new meta.new ≡
         handled_by (cmd_number cmd) 52 64 setup (record { state = state.old; flash = flash.old; meta = meta.old }) }
 {
