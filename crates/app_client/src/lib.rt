@@ -12,7 +12,8 @@ use app_state::{AppSetup, AppState};
 use device_feed::{Fed, Passed, kind_of};
 use device_replies::Answer;
 
-// A call that is not refused.
+// A call that is not refused. The three functions here are those of `device_feed` over another state and no flash; a trait over both would need the refusal,
+// the dispatch, the frame and its count as methods with laws, for a dozen lines.
 fn pass(
     setup: AppSetup,
     state: &mut AppState,

@@ -18,7 +18,7 @@ use device_turns::Turn;
 use wire_frames::fields;
 use wire_frames::frame::{DEFAULT_PAYLOAD, FrameBytes, Kind};
 use wire_info::InfoData;
-use wire_numbers::{ResetFlags, RunMode, Status};
+use wire_numbers::{Cmd, ResetFlags, RunMode, Status};
 
 // The mode that Info tells: the app runs.
 const MODE: u8 = 1;
@@ -48,16 +48,17 @@ fn info(setup: AppSetup, f: &mut FrameBytes, meta: &[u8])
     );
 }
 
+// The commands that an app knows, a question each, as the numbers of 01 have a name each.
 fn is_info(f: &FrameBytes) -> bool
     ensures { result ≡ eqb (cmd_of f.now) 0 }
 {
-    f[2] == 0
+    f[2] == Cmd::Info.to_u8()
 }
 
 fn is_reset(f: &FrameBytes) -> bool
     ensures { result ≡ eqb (cmd_of f.now) 4 }
 {
-    f[2] == 4
+    f[2] == Cmd::Reset.to_u8()
 }
 
 // A reply of no data.
@@ -145,7 +146,8 @@ fn speak(
     device_replies::reply(x.status, x.len, false, wait, &mut state.frame, room)
 }
 
-// A frame that has ended in this way.
+// A frame that has ended in this way. It begins as the bootloader's `dispatch` does, but its state, its world and what it carries out are others: a trait over
+// both would have more methods than these functions have lines in common.
 pub fn app_dispatch(
     setup: AppSetup,
     kind: Kind,

@@ -14,7 +14,7 @@ use wire_frames::frame;
 use wire_frames::frame::{Frame, FrameBytes};
 
 // The numbers that an app answers with; the bootloader's are those of its image. An id of length 0 is an unaddressed app; id bytes past the length count for
-// nothing.
+// nothing. Six of these a `Setup` has too: as a struct within both, each rule would read them through one name more.
 #[derive(Clone, Copy)]
 pub struct AppSetup {
     pub erase_size: usize,
@@ -26,7 +26,8 @@ pub struct AppSetup {
     pub app_version: u16,
 }
 
-// What an app keeps between calls beside its frame's bytes: how many of them have begun, the selection, whether a restart is due.
+// What an app keeps between calls beside its frame's bytes: how many of them have begun, the selection, whether a restart is due: a device's
+// numbers but for those of a run of writes.
 #[derive(Clone, Copy)]
 pub struct AppNumbers {
     pub got: usize,

@@ -39,9 +39,6 @@ module _ (x y : Booted) (e : x ≡ y) (s answer : List ℕ) (r : ℕ) (k : r ≡
   pub start_laid : (z : List ℕ) → z ≡ state_bytes x.state → eqb x.answer 0 ≡ true → Calls.after_start r z x.meta a ≡ Calls.start_called y s answer
   start_laid z kz t = said z (kz ∙ yes (eqb x.answer 0) (state_bytes x.state) s t)
 
-  pub start_kept : eqb x.answer 0 ≡ false → Calls.after_start r s x.meta a ≡ Calls.start_called y s answer
-  start_kept t = said s (no (eqb x.answer 0) (state_bytes x.state) s t)
-
 -- a start leaves a new state, open or closed
 pub new_always : (cap page : ℕ) (s : Setup) (mode : ℕ) (flash meta : List ℕ) →
     (started_of cap page s mode flash meta).state ≡ new_state cap page (started_of cap page s mode flash meta).state.numbers.closed

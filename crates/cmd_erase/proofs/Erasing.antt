@@ -36,13 +36,6 @@ module _ (page erase capacity : ℕ) (f cells meta : List ℕ) (b : Bool) (e : b
   unfolding erase_of
   erase_outside w = simp (← e, w)
 
-  -- m is the record once it is ready, s the storage's answer, x the cells that it leaves, t the status that the answer stands for
-  pub erase-carried : b ≡ true → (m : List ℕ) → m ≡ readied meta → (a n : ℕ) → a ≡ addr_of f → n ≡ byte_count_of f → (s : Result ⊤ FlashError) (x : List ℕ) →
-      leaves s x ≡ flash.pages_erased page cells a (a + n) →
-      (t : ℕ) → t ≡ pick (eqb (stored_number s) 0) Ok WriteError → erased_to t x m ≡ erase_of page erase capacity f cells meta
-  unfolding erase_of
-  erase-carried w m k a n ea en s x l t q = rw (← e, w, ← ea, ← en, ← l, q, k) refl
-
 -- a number that the erase size divides is a multiple of the page too
 whole : (page erase x : ℕ) → erase % page ≡ 0 → x % erase ≡ 0 → x % page ≡ 0
 whole page erase x d h = mod-eq-zero_of_dvd page (dvd_trans page (dvd_of_mod-eq-zero page d) (dvd_of_mod-eq-zero erase h))

@@ -18,20 +18,6 @@ or_true : (b : Bool) → b || true ≡ true
 or_true true = refl
 or_true false = refl
 
-module _ (capacity : ℕ) (flash meta : List ℕ) (size : ℕ) (e : size ≡ size_of meta) where
-  pub version_short : size < 2 → 0xFFFF ≡ app_version capacity flash meta
-  unfolding app_version
-  version_short h = rw (← e, lt-ltb size 2 h) refl
-
-  pub version_long : capacity < size → 0xFFFF ≡ app_version capacity flash meta
-  unfolding app_version
-  version_long h = rw (← e, lt-ltb capacity size h, or_true (ltb size 2)) refl
-
-  pub version_there : 2 ≤ size → size ≤ capacity →
-      low_first (get_or flash (size - 2) 0xFF ∷ get_or flash (size - 1) 0xFF ∷ []) ≡ app_version capacity flash meta
-  unfolding app_version
-  version_there l h = rw (← e, le-ltb size 2 l, le-ltb capacity size h) refl
-
 -- the eighteen bytes: capacity and erase size are laid by their low bytes
 pub info_built : (cap mode app capacity erase version key baud : ℕ) (meta new : List ℕ) → baud ≡ baud_of meta →
     new ≡

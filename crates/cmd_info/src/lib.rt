@@ -36,7 +36,8 @@ fn lay(f: &mut FrameBytes, new: &[u8; 18])
     f[10..28].copy_from_slice(new);
 }
 
-// The reply to Info of a device of this payload capacity, mode and app version, in the frame's data area.
+// The reply to Info of a device of this payload capacity, mode and app version, in the frame's data area. The setup's four numbers come one by one, since a
+// bootloader and an app keep them in structs of their own, which stand above this crate.
 pub fn tell(
     payload: u16,
     mode: u8,

@@ -34,24 +34,6 @@ judged : (key capacity s : ℕ) (f flash meta : List ℕ) (u : Bool) → u ≡ u
 unfolding verify_of
 judged key capacity s f flash meta u e k = rw (k, e) refl
 
-module _ (key capacity : ℕ) (f flash meta : List ℕ) (u : Bool) (e : u ≡ updating meta) where
-  pub verify_early : u ≡ false → verified_to Unsupported 0 meta ≡ verify_of key capacity f flash meta
-  verify_early w = rw w at (judged key capacity (addr_of f) f flash meta u e refl)
-
-  module _ (w : u ≡ true) (s : ℕ) (k : s ≡ addr_of f) where
-    pub verify_none : s ≡ 0 → verified_to AddrOutOfBounds 0 meta ≡ verify_of key capacity f flash meta
-    verify_none h = simp (w, eq-eqb s 0 h) at (judged key capacity s f flash meta u e k)
-
-    pub verify_long : (s ≡ 0 → ⊥) → capacity < s → verified_to AddrOutOfBounds 0 meta ≡ verify_of key capacity f flash meta
-    verify_long h l = simp (w, ne_eqb s 0 h, lt-ltb capacity s l) at (judged key capacity s f flash meta u e k)
-
-    module _ (h : s ≡ 0 → ⊥) (l : s ≤ capacity) (b : Bool) (q : b ≡ key_fits key capacity flash s) where
-      pub verify_other : b ≡ false → verified_to Incompatible 0 meta ≡ verify_of key capacity f flash meta
-      verify_other v = simp (w, ne_eqb s 0 h, le-ltb capacity s l, ← q, v) at (judged key capacity s f flash meta u e k)
-
-      pub verify-recorded : b ≡ true → (x : ℕ) → x ≡ crc_of (take s flash) → verified_to Ok x (refreshed meta x 0x3F s) ≡ verify_of key capacity f flash meta
-      verify-recorded v x p = rw p (simp (w, ne_eqb s 0 h, le-ltb capacity s l, ← q, v) at (judged key capacity s f flash meta u e k))
-
 -- the record is left as it is, or rewritten as Validating; so what the rewrite keeps of it, a Verify keeps
 module _ (part : List ℕ → ℕ) (meta : List ℕ) (kept : (checksum size : ℕ) → part (refreshed meta checksum 0x3F size) ≡ part meta) where
   verify_keeps : (key capacity : ℕ) (f flash : List ℕ) → part (verify_of key capacity f flash meta).meta ≡ part meta

@@ -28,27 +28,6 @@ module _ (f : List ℕ) (l : length f ≡ 64) (len : ℕ) (e : len ≡ len_of f)
       let d : length (drop 10 f) ≡ 54 = length-drop 10 f ∙ ap (λ (k : ℕ). k - 10) l in
       take_all 54 (drop 10 f) (omega arith) ∙ sym (take_all (len_of f) (drop 10 f) (omega arith))
 
--- where it may stand
-module _ (capacity : ℕ) (f : List ℕ) (next addr len : ℕ) (a : addr ≡ addr_of f) (l : len ≡ len_of f) where
-  pub fits_not : capacity < addr + len → false ≡ write_fits 64 capacity f next
-  unfolding write_fits
-  fits_not h = rw (← a, ← l, lt-leb (addr + len) capacity h) refl
-
-  module _ (h : addr + len ≤ capacity) where
-    pub fits-first : next ≡ none_pending → eqb (addr % 64) 0 ≡ write_fits 64 capacity f next
-    unfolding write_fits
-    fits-first n = rw (← a, ← l, le-leb (addr + len) capacity h, eq-eqb next none_pending n) refl
-
-    pub fits_on : (next ≡ none_pending → ⊥) → eqb addr next ≡ write_fits 64 capacity f next
-    unfolding write_fits
-    fits_on n = rw (← a, ← l, le-leb (addr + len) capacity h, ne_eqb next none_pending n) refl
-
--- a page written
-pub out_is : (flash flash' p : List ℕ) (fill next n answer : ℕ) (failed r : Bool) →
-    record { answer = answer; cells = flash' } ≡ page_written 64 flash (next - n) (take n p) → r ≡ (failed || fails answer) →
-    running flash' p 0 next r ≡ page_out 64 n (running flash p fill next failed)
-out_is flash flash' p fill next n answer failed r e k = rw (← e, k) refl
-
 -- a byte taken: the page is full with it, or not
 module _ (flash p : List ℕ) (fill next : ℕ) (failed : Bool) (b : ℕ) where
   took_full : fill + 1 ≡ 64 → (w : Run) → w ≡ page_out 64 64 (put (running flash p fill next failed) b) → w ≡ took 64 (running flash p fill next failed) b
@@ -58,17 +37,6 @@ module _ (flash p : List ℕ) (fill next : ℕ) (failed : Bool) (b : ℕ) where
   took_more : (fill + 1 ≡ 64 → ⊥) → put (running flash p fill next failed) b ≡ took 64 (running flash p fill next failed) b
   unfolding took
   took_more h = rw (ne_eqb (fill + 1) 64 h) refl
-
--- the end of a run: with nothing left of a page, or with w once it is written
-module _ (flash p : List ℕ) (fill next : ℕ) (failed : Bool) where
-  pub flush_none : fill ≡ 0 → running flash p 0 none_pending failed ≡ flushed 64 (running flash p fill next failed)
-  unfolding flushed
-  flush_none h = rw (eq-eqb fill 0 h) refl
-
-  pub flush_rest : (fill ≡ 0 → ⊥) → (w : Run) → w ≡ page_out 64 fill (running flash p fill next failed) →
-      run_ended w ≡ flushed 64 (running flash p fill next failed)
-  unfolding flushed
-  flush_rest h w e = rw (ne_eqb fill 0 h, e) refl
 
 -- how far a run may be: short of a page, which begins before the next byte
 pub record Stands (w : Run) : Type 0 where
@@ -239,26 +207,9 @@ module _ (f flash p d : List ℕ) (addr : ℕ) (a : addr ≡ addr_of f) (k : d �
         let g : addr % 64 ≤ addr = omega arith in
         rw e (poured_stands d (running flash p (addr % 64) addr false) (record { below = h; back = g })).back
 
-    module _ (b : Bool) (g : b ≡ bit_set 7 (flags_of f)) where
-      pub written_flush : b ≡ true → (v : Run) → v ≡ flushed 64 u → v ≡ written_of 64 f (begin 64 f flash p)
-      unfolding written_of
-      written_flush h v z = z ∙ (rw (← g, h, e, k, a) refl)
-
-      pub written_on : b ≡ false → u ≡ written_of 64 f (begin 64 f flash p)
-      unfolding written_of
-      written_on h = rw (← g, h, e, k, a) refl
-
 -- the three ends of a Write
 module _ (capacity : ℕ) (f flash p : List ℕ) (fill next : ℕ) (meta : List ℕ) where
-  pub write_idle : updating meta ≡ false → wrote_to Unsupported flash p fill next ≡ write_of 64 capacity f flash p fill next meta
-  unfolding write_of
-  write_idle u = rw u refl
-
   module _ (u : updating meta ≡ true) where
-    pub write_astray : write_fits 64 capacity f next ≡ false → wrote_to AddrOutOfBounds flash p fill next ≡ write_of 64 capacity f flash p fill next meta
-    unfolding write_of
-    write_astray h = rw (u, h) refl
-
     pub write_done : write_fits 64 capacity f next ≡ true → (w : Run) → w ≡ written_of 64 f (begin 64 f flash p) → (s : ℕ) → s ≡ pick w.failed WriteError Ok →
         wrote_to s w.flash w.page w.fill w.next ≡ write_of 64 capacity f flash p fill next meta
     unfolding write_of

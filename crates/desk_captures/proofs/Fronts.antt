@@ -15,12 +15,6 @@ use Rattle.desk_captures.specs.declared.Fault.{Fault}
 use Rattle.desk_captures.specs.Captures.{is_mark, Front, nothing, stands, fault, counted_of, front_of, Found, recorded, found_by, next_at, record_by, start_of, size_of, after_by}
 use Rattle.desk_captures.specs.Captures.{after_at, part_at, place_at, part_place}
 
-pub mark_to : (b : ℕ) → b ≡ 0x3E → true ≡ is_mark b
-mark_to b e = simp (eq-eqb b 0x3E e)
-
-pub mark_from : (b : ℕ) → (b ≡ 0x3E → ⊥) → eqb b 0x3C ≡ is_mark b
-mark_from b h = simp (ne_eqb b 0x3E h)
-
 -- what is found at a place with the mark m and the count n, and k bytes after them
 unfoldable pub counted_at : ℕ → ℕ → ℕ → ℕ → Found
 counted_at at m n k = if eqb n 0 then Err Fault.CountZero else if ltb k n then Err Fault.CutShort else recorded m (at + 2) n

@@ -200,6 +200,7 @@ pub fn compare(first: &[u8], second: &[u8]) -> Compared
     ensures { result ≡ compare_of first.now second.now }
 {
     let mut at: usize = 0;
+    // a while: where the same stands ends it, and no count
     while same_at(first, second, at) {
         at = after(first, at);
     }

@@ -22,26 +22,9 @@ use Rattle.device_early.specs.Early.{sizeless, record_stays, stays, early_of}
 
 -- the record's cases
 module _ (careful : Bool) (capacity : ℕ) (meta : List ℕ) where
-  abbrev spent : Bool
-  spent = validating meta && eqb (trials_of meta) 0
-
   pub while_updating : updating meta ≡ true → true ≡ record_stays careful capacity meta
   unfolding record_stays
   while_updating u = simp u
-
-  module _ (u : updating meta ≡ false) where
-    pub once_spent : spent ≡ true → true ≡ record_stays careful capacity meta
-    unfolding record_stays
-    once_spent s = simp (u, s)
-
-    module _ (s : spent ≡ false) where
-      pub with_none : checksum_of meta ≡ 0xFFFF → careful ≡ record_stays careful capacity meta
-      unfolding record_stays
-      with_none e = simp (u, s, eq-eqb _ _ e)
-
-      pub by_size : (checksum_of meta ≡ 0xFFFF → ⊥) → sizeless capacity meta ≡ record_stays careful capacity meta
-      unfolding record_stays
-      by_size e = simp (u, s, ne_eqb _ _ e)
 
 -- no byte at all has the CRC's start for its CRC, which is the sign for none
 crc_none : crc_of [] ≡ 0xFFFF

@@ -69,7 +69,8 @@ fn pass(
     }
 }
 
-// `feed` on a state that is lent: for who keeps it in place and feeds it byte by byte.
+// `feed` on a state that is lent: for who keeps it in place and feeds it byte by byte. Flash, record and room are lent one by one, as C hands them over: a
+// struct of the three would be built at each call and taken apart at the next.
 #[tactic(auto, using(crate::proofs::Feeding::call_refused))]
 pub fn feed_in(
     setup: Setup,

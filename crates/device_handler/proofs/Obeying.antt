@@ -37,10 +37,3 @@ unfound b cap page s h e = go (leb b 5) refl
           ne_eqb b 3 (λ k. omega arith),
           ne_eqb b 4 (λ k. omega arith),
         )
-
-module _ (h : World) (x v : Verified) (k : x ≡ v) where
-  pub verify-replied : eqb x.status 1 ≡ true → loaded 2 (frame_set (crc_laid x.crc h.state.frame) (meta_set x.meta h)) ≡ after_verify h v
-  verify-replied w = simp w at (ap (after_verify h) k)
-
-  pub verify_refused : eqb x.status 1 ≡ false → bare x.status (meta_set x.meta h) ≡ after_verify h v
-  verify_refused w = simp w at (ap (after_verify h) k)

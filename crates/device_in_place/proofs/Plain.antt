@@ -18,19 +18,6 @@ use Rattle.device_in_place.specs.Byte.{plain_at, laid_to, lay_byte_of}
 use Rattle.wire_frames.proofs.Steps.{header_step, data_step, stays, well_small}
 use Rattle.wire_frames.proofs.Parts.{part_length, part_start, part_read}
 
-module _ (f : List ℕ) (g : ℕ) where
-  pub plain_sync : g < 2 → false ≡ plain_at f g
-  plain_sync h = sym (simp (lt-leb 2 g h))
-
-  pub plain-header : 2 ≤ g → g < 9 → true ≡ plain_at f g
-  plain-header h i = sym (simp (le-leb 2 g h, lt-ltb g 9 i))
-
-  pub plain-last : g ≡ 9 → false ≡ plain_at f g
-  plain-last e = rw e refl
-
-  pub plain_data : 9 < g → ltb g (10 + len_of f) ≡ plain_at f g
-  plain_data h = sym (simp (le-leb 2 g (omega arith), le-ltb g 9 (omega arith), lt-ltb 9 g h))
-
 -- past the sync word, a true beginning has it
 sync_bytes : (cap : ℕ) (device : Bool) (g a b : ℕ) (m : List ℕ) → 2 ≤ g → well_of cap device (a ∷ b ∷ m) g ≡ true → ready (a ∷ b ∷ m) ≡ a ∷ b ∷ m
 unfolding well_of

@@ -24,15 +24,6 @@ use Rattle.device_in_place.specs.On.{frame_in, page_in, world_in}
 use Rattle.device_in_place.specs.Byte.{plain_at, Laid, laid_to, lay_byte_of, clear_of, byte_on}
 use Rattle.device_in_place.proofs.Plain.{begun-within, plain_read}
 
-pub clear_all : (a b c : Bool) → a ≡ true → b ≡ true → c ≡ a && (b && c)
-clear_all a b c x y = rw (x, y) refl
-
-pub clear_run : (a b c : Bool) → a ≡ true → b ≡ false → false ≡ a && (b && c)
-clear_run a b c x y = rw (x, y) refl
-
-pub clear_none : (a d : Bool) → a ≡ false → false ≡ a && d
-clear_none a d x = rw x refl
-
 -- the cases of the call
 module _ (erase capacity idLen kind : ℕ) (n : Numbers) (s : List ℕ) (b flash meta room : ℕ) where
   abbrev test : Bool

@@ -10,6 +10,7 @@ ghost use Rattle.device_turns.specs.declared.Turn.{Turn};
 ghost use Rattle.device_turns.specs.Turns.{why_number, turned, chosen, damaged, asked, turn_of};
 
 use wire_frames::frame::{FrameBytes, Kind};
+use wire_numbers::Cmd;
 
 // Why a device keeps silent once a frame has ended.
 #[derive(Clone, Copy)]
@@ -99,7 +100,7 @@ fn damaged(why: Silence, id_len: usize, on: bool) -> Turn
 fn is_select(f: &FrameBytes) -> bool
     ensures { result ≡ eqb (cmd_of f.now) 5 }
 {
-    f[2] == 5
+    f[2] == Cmd::Select.to_u8()
 }
 
 // A good request: an addressed device replies to a Select that matches it and, while selected, to the others.

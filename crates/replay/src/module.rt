@@ -79,6 +79,7 @@ fn record(
 ) -> io::Result<Module> {
     let mut m = module;
     let mut at: usize = 0;
+    // a while: a step is what the call took
     while at < bytes.len() {
         m = call(out, m, capture, &bytes[at..], flash, meta)?;
         if !goes_on(&m) || m.taken == 0 || bytes.len() - at < m.taken {

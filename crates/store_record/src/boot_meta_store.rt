@@ -56,6 +56,7 @@ pub fn app_size(meta: &[u8]) -> u32
     four_at(meta, SIZE as u32)
 }
 
+// This byte and the next have a name each; handed its place, one function for both would be `byte_at` again.
 pub fn baud(meta: &[u8]) -> u8
     ensures { result ≡ baud_of meta.now }
 {
@@ -96,6 +97,7 @@ fn step_down(meta: &mut [u8], at: usize)
     put(meta, at, x & (x >> 1));
 }
 
+// The two steps that callers know, by name: the places stay in here.
 pub fn advance(meta: &mut [u8])
     ensures { meta.new ≡ advanced meta.old }
 {

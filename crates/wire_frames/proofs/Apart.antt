@@ -29,7 +29,3 @@ end_back (Some k) = ap Some (kind_back k)
 
 pub end_apart : (a b : Option Kind) → end_status a ≡ end_status b → a ≡ b
 end_apart = apart end_status (option_map kind_from) end_back
-
--- what is known of the code's verdict r is known of the definition's, x
-pub end_known : (x r : Option Kind) → end_status r ≡ end_status x → (y : Option Kind) → r ≡ y → x ≡ y
-end_known x r e y k = sym (end_apart r x e) ∙ k

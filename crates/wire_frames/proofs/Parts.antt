@@ -28,17 +28,6 @@ module _ (cap : ℕ) (device : Bool) (f : List ℕ) (g : ℕ) where
       let b = and_both whole (well_of cap device f g) e in
       simp (b.0, b.1)
 
-  pub part_refused : whole && well_of cap device f g ≡ false → (l : List ℕ) →
-      record { bytes = f; got = g; taken = 0; said = no_beginning } ≡ part_of cap device f g l
-  unfolding part_of read_of
-  part_refused e l = go whole (well_of cap device f g) refl refl e
-    where
-      go : (t w : Bool) → whole ≡ t → well_of cap device f g ≡ w → t && w ≡ false →
-          record { bytes = f; got = g; taken = 0; said = no_beginning } ≡ part_of cap device f g l
-      go true true a b k = cc
-      go true false a b k = simp (a, b)
-      go false w a b k = simp a
-
 -- a frame's own array is as long as a frame
 pub part_of_whole : (cap : ℕ) (device : Bool) (f : List ℕ) (g : ℕ) (l : List ℕ) → length f ≡ 12 + cap → part_of cap device f g l ≡ read_of cap device f g l
 unfolding part_of

@@ -50,6 +50,7 @@ pub enum RunMode {
     Service,
 }
 
+// A flag is asked by its name, here and of a Write, as upstream does: one question by the mask would put the masks into every caller.
 impl ResetFlags {
     // Service follows, not the app.
     pub const BOOTLOADER: u8 = 1;

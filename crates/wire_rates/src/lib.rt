@@ -46,7 +46,7 @@ impl BaudRate {
         BaudRate::B3000000,
     ];
 
-    // Bits per second.
+    // Bits per second. This table and the next stand apart: one of pairs would be searched for what a match names at once.
     pub fn hz(self) -> u32
         ensures { result ≡ hz_of self }
     {
