@@ -1,5 +1,4 @@
 -- What vectors compute by, each list stated once: who names one of these on an `unfolding` line unfolds all that stands under it.
-use Rattle.std.specs.Prelude.{fold}
 use Rattle.wire_numbers.specs.Crc.{entered, bits, bits_of, crc_from}
 use Rattle.wire_frames.specs.Reading.{hunt, overhears, verdict_of, checked, started}
 use Rattle.wire_frames.specs.Stored.{begun, store, well_of}
@@ -17,7 +16,7 @@ use Rattle.device_feed.specs.Feed.{after_read, taken_of, fed_of}
 -- a frame: its reading, Info, Select, and its reply
 unfoldable pub frame_rules : Type 0
 unfolding begun store hunt started verdict_of overhears checked dispatch_of turn_of obeyed_of handled_of answered_of reply_of
-    send_of sealed info_of app_version state_read app_present select_of matches agree slot_of copied crc_from bits_of bits entered fold
+    send_of sealed info_of app_version state_read app_present select_of matches agree slot_of copied crc_from bits_of bits entered
 frame_rules = Unit {0}
 
 -- a call: its refusals, and its frame

@@ -1,5 +1,5 @@
 -- The code's answers as what the definitions speak of; an auditor need not read it.
-use Rattle.std.specs.Prelude.{List, Option, Some, None}
+use Rattle.std.specs.Prelude.{ℕ, List, Option, Some, None}
 use Rattle.wire_frames.specs.declared.frame.Kind.{Kind}
 use Rattle.wire_frames.specs.Stored.{Said, quiet, ended, no_beginning}
 use Rattle.device_state.specs.declared.State.{State}
