@@ -8,7 +8,7 @@ use Rattle.laws.specs.Pick.{pick}
 use Rattle.std.specs.Prelude.{Some, None}
 use Rattle.wire_frames.specs.declared.frame.Kind.{Kind}
 use Rattle.wire_frames.specs.Reading.{read_frame, Outcome}
-use Rattle.wire_frames.specs.Stored.{begun, ready, ended, Read, out_of, well_of, read_of}
+use Rattle.wire_frames.specs.Stored.{begun, ready, quiet, ended, Read, out_of, well_of, read_of}
 use Rattle.device_state.specs.declared.refusal.Refusal.{Refusal}
 use Rattle.device_state.specs.Refusals.{refusal_number, lengths_of}
 use Rattle.device_state.proofs.Told.{refusal_some}

@@ -34,9 +34,10 @@ fn pass(
             answer: Answer::Quiet,
         };
     };
+    let answer = app_dispatcher::app_dispatch(setup, kind, state, meta, reply);
     Passed {
         taken: p.taken,
-        answer: app_dispatcher::app_dispatch(setup, kind, state, meta, reply),
+        answer: answer,
     }
 }
 

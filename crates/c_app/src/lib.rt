@@ -16,7 +16,6 @@ use app_client::app_feed_in;
 use app_record::{BadRecord, baud, confirm, position, set_baud, stored_number};
 use app_state::{AppNumbers, AppSetup, AppState, app_new, app_refuses};
 use c_layout::{ANSWER_SIZE, flag, lay_answer, refuse};
-use device_in_place::taken_out;
 use device_replies::numbers_of;
 use device_state::PRESENT;
 use device_state::refusal::{Refusal, fits, refusal_number};
@@ -61,13 +60,22 @@ fn numbers_from(s: &[u8]) -> AppNumbers
     }
 }
 
+fn frame_from(s: &[u8]) -> FrameBytes
+    requires { length s.now ≡ app_state_size 52 }
+    ensures { result ≡ part 0 64 s.now }
+{
+    let mut f = [0u8; FRAME];
+    f.copy_from_slice(&s[..FRAME]);
+    f
+}
+
 // The state that these bytes stand for.
 fn app_from(s: &[u8]) -> AppState
     requires { length s.now ≡ app_state_size 52 }
     ensures { result ≡ app_from 52 s.now }
 {
     AppState {
-        frame: taken_out(s, 0),
+        frame: frame_from(s),
         numbers: numbers_from(s),
     }
 }

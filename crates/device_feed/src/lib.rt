@@ -63,9 +63,10 @@ fn pass(
             answer: Answer::Quiet,
         };
     };
+    let answer = device_dispatcher::dispatch(setup, kind, state, flash, meta, reply);
     Passed {
         taken: p.taken,
-        answer: device_dispatcher::dispatch(setup, kind, state, flash, meta, reply),
+        answer: answer,
     }
 }
 

@@ -24,13 +24,13 @@ use wire_numbers::le;
 // Both arrays.
 const STATE: usize = FRAME + PAGE_SIZE;
 
-// So many bytes from a place on.
-pub fn taken_out<const N: usize>(s: &[u8], at: usize) -> [u8; N]
-    requires { at + N ≤ length s.now }
-    ensures { result ≡ take N (drop at s.now) }
+// An array's bytes from a place on.
+fn taken_out(s: &[u8], at: usize) -> FrameBytes
+    requires { at + 64 ≤ length s.now }
+    ensures { result ≡ take 64 (drop at s.now) }
 {
-    let mut a = [0u8; N];
-    a.copy_from_slice(&s[at..at + N]);
+    let mut a = [0u8; FRAME];
+    a.copy_from_slice(&s[at..at + FRAME]);
     a
 }
 

@@ -179,8 +179,8 @@ position_back : (p : Result ℕ BadRecord) → position_from (position_told p) �
 position_back (Ok place) = refl
 position_back (Err e) = refl
 
-pub position_apart : (a b : Result ℕ BadRecord) → position_told a ≡ position_told b → a ≡ b
-position_apart = apart position_told position_from position_back
+pub position_read_apart : (a b : Result ℕ BadRecord) → position_told a ≡ position_told b → a ≡ b
+position_read_apart = apart position_told position_from position_back
 
 abbrev mended_from : ℕ → ℕ → Result ℕ MendError
 mended_from n count =

@@ -1,6 +1,6 @@
 -- The running app's functions and calls.
 use Rattle.theorem_determined.specs.Determined.{Determined}
-use Rattle.theorem_determined.proofs.Apart.{plain, outcome_apart, answer_apart, stored_apart, rate_read_apart, position_apart}
+use Rattle.theorem_determined.proofs.Apart.{plain, outcome_apart, answer_apart, stored_apart, rate_read_apart, position_read_apart}
 use Rattle.app_record.proofs as app_record
 use Rattle.app_record.specs.contracts as app_record_contracts
 use Rattle.app_state.proofs as app_state
@@ -26,7 +26,7 @@ pub baud : Determined app_record_contracts.baud.ended app_record.baud.Reads.Post
 baud κs a o o' p q i = (rate_read_apart o.0 o'.0 (plain p q) i, o.1)
 
 pub position : Determined app_record_contracts.position.ended app_record.position.Reads.Post
-position κs a o o' p q i = (position_apart o.0 o'.0 (plain p q) i, o.1)
+position κs a o o' p q i = (position_read_apart o.0 o'.0 (plain p q) i, o.1)
 
 pub app_new : Determined app_state_contracts.app_new.ended app_state.app_new.Reads.Post
 app_new κs a o o' p q i = (plain p q i, o.1)

@@ -158,9 +158,6 @@ feed κs a o o' p q i =
       (tt, (tt, (tt, ((e i).left.flash, ((e i).left.meta, ((e i).room, tt)))))),
     )
 
-pub taken_out : Determined device_in_place_contracts.taken_out.ended device_in_place.taken_out.Reads.Post
-taken_out κs a o o' p q i = (plain p q i, o.1)
-
 pub feed_on : Determined device_in_place_contracts.feed_on.ended device_in_place.feed_on.Reads.Post
 feed_on κs a o o' p q i =
     let e = plain p q in (

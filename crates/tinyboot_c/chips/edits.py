@@ -6,9 +6,9 @@ EXPORTED = re.compile(r"^define (noundef(?: zeroext)?) (\S+) @(tinyboot_\w+)\((.
 # Not inlined, where there are such: each is called in several places, and a copy in each costs more than the calls. Another name costs size alone. One
 # device's list is shorter: its constants have to reach the tests of them.
 APART = ("wire_numbers::crc::crc16", "wire_numbers::le::read32", "wire_frames::fields::addr", "tinyboot_c::layout::four", "device_state::refusal::fits",
-         "device_in_place::taken_out::<=16>", "wire_frames::frame::well", "device_feed::kind_of", "c_layout::lay_taken", "c_layout::flag",
+         "device_in_place::taken_out", "wire_frames::frame::well", "device_feed::kind_of", "c_layout::lay_taken", "c_layout::flag",
          "device_state::refusal::run_fits", "cmd_write::page_out")
-ONE_APART = ("wire_numbers::crc::crc16", "wire_frames::fields::addr", "device_feed::is_going", "c_layout::lay_taken", "wire_frames::frame::well",
+ONE_APART = ("wire_numbers::crc::crc16", "wire_frames::fields::addr", "device_feed::kind_of", "c_layout::lay_taken", "wire_frames::frame::well",
              "store_record::boot_meta_store::refresh")
 # One device does without the shorter way for a single byte: it answers whether it has taken the byte, and where it has not the byte goes the long way.
 SHORTCUT = "tinyboot_c::feeding::fed_byte"

@@ -5,7 +5,6 @@ ghost use Rattle.c_layout.specs.Layout.{part, setup_from};
 ghost use Rattle.c_app.specs.App.{app_setup_from};
 
 use app_state::AppSetup;
-use device_in_place::taken_out;
 use device_state::Setup;
 use wire_numbers::le;
 
@@ -23,6 +22,15 @@ pub(crate) fn four(s: &[u8], at: usize) -> u32
     le::read32(s[at], s[at + 1], s[at + 2], s[at + 3])
 }
 
+fn id_from(setup: &[u8]) -> [u8; 16]
+    requires { 25 ≤ length setup.now }
+    ensures { result ≡ part 9 16 setup.now }
+{
+    let mut id = [0u8; 16];
+    id.copy_from_slice(&setup[9..25]);
+    id
+}
+
 pub(crate) fn setup_from(setup: &[u8]) -> Setup
     requires { length setup.now ≡ 32 }
     ensures { result ≡ setup_from setup.now }
@@ -30,7 +38,7 @@ pub(crate) fn setup_from(setup: &[u8]) -> Setup
     Setup {
         erase_size: four(setup, 0) as usize,
         capacity: four(setup, 4) as usize,
-        id: taken_out(setup, 9),
+        id: id_from(setup),
         id_len: usize::from(setup[8]),
         version: two(setup, 25),
         key: four(setup, 27),
@@ -45,7 +53,7 @@ pub(crate) fn app_setup_from(setup: &[u8]) -> AppSetup
     AppSetup {
         erase_size: four(setup, 0) as usize,
         capacity: four(setup, 4) as usize,
-        id: taken_out(setup, 9),
+        id: id_from(setup),
         id_len: usize::from(setup[8]),
         version: two(setup, 25),
         key: four(setup, 27),

@@ -14,4 +14,4 @@ returns c =
     let a = c.args in
     let w : AppWorld = record { state = a.state.now; meta = a.meta.now } in
     call_ended 52 a.setup w a.bytes.now a.reply.now _ c.read_in-p.ensures c.requires c.in-Some.kind (sym c.kind_of.ensures ∙ c.in-Some.is) _
-    c.app_dispatch.ensures
+    c.app_dispatch-answer.ensures

@@ -14,4 +14,4 @@ returns c =
     let a = c.args in
     let w : World = record { state = a.state.now; flash = a.flash.now; meta = a.meta.now } in
     call_ended 52 64 a.setup w a.bytes.now a.reply.now _ c.read_in-p.ensures c.requires c.in-Some.kind (sym c.kind_of.ensures ∙ c.in-Some.is) _
-    c.dispatch.ensures
+    c.dispatch-answer.ensures
