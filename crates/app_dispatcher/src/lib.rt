@@ -48,7 +48,7 @@ fn info(setup: AppSetup, f: &mut FrameBytes, meta: &[u8])
     );
 }
 
-// The commands that an app knows, a question each, as the numbers of 01 have a name each.
+// The two commands that an app carries out, each asked for by its own name.
 fn is_info(f: &FrameBytes) -> bool
     ensures { result ≡ eqb (cmd_of f.now) 0 }
 {

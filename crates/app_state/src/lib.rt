@@ -26,8 +26,8 @@ pub struct AppSetup {
     pub app_version: u16,
 }
 
-// What an app keeps between calls beside its frame's bytes: how many of them have begun, the selection, whether a restart is due: a device's
-// numbers but for those of a run of writes.
+// What an app keeps between calls beside its frame's bytes: how many of them have begun, the selection, whether a restart is due. These are a
+// device's numbers but for those of a run of writes.
 #[derive(Clone, Copy)]
 pub struct AppNumbers {
     pub got: usize,

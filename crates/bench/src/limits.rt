@@ -21,7 +21,7 @@ pub const ROOM: usize = 512;
 // The entries that a list for a mend may have.
 pub const MOST_ENTRIES: usize = 16;
 
-// The last mode, rate and command that there is.
+// The last mode, rate and command that there are.
 const LAST_MODE: u8 = 1;
 
 const LAST_RATE: u8 = 13;
@@ -101,7 +101,7 @@ fn no_more(n: usize, most: usize) -> Result<(), Fault>
     at_most(n, most, Fault::MoreThan(most))
 }
 
-// One of the numbers from 0 on, or there is none such.
+// A number of a list that begins with 0 and ends with `last`; else this fault.
 fn known(n: u8, last: u8, fault: Fault) -> Result<(), Fault>
     ensures { is_ok result ≡ leb n last }
 {

@@ -40,11 +40,12 @@ compared_number Compared.Alike = 0
 compared_number (Compared.Differs at) = 1
 compared_number (Compared.Fault which fault at) = fault_number fault
 
--- whose fault: 1 the first's, 2 the second's; 0 where there is none
+-- whose fault: 1 the first's, 2 the second's
 abbrev pub which_number : Which → ℕ
 which_number Which.First = 1
 which_number Which.Second = 2
 
+-- the same of a comparison; 0 where there is no fault
 abbrev pub compared_capture : Compared → ℕ
 compared_capture Compared.Alike = 0
 compared_capture (Compared.Differs at) = 0

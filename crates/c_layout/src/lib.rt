@@ -87,8 +87,8 @@ pub fn new_bytes(closed: bool) -> [u8; STATE_SIZE]
     new
 }
 
-// Byte by byte, since arrays of eight copied to their places are 278 bytes more of any setup's code on rv32ec (4,572 for 4,294).
-// What a call said, in the first half of an answer.
+// What a call said, in the first half of an answer. Byte by byte, as the second half is: arrays of eight, copied to their places, are 278 bytes more of any
+// setup's code on rv32ec (4,572 for 4,294).
 fn lay_said(a: &mut [u8], said: Said)
     requires { 16 ≤ length a.old }
     ensures { a.new ≡

@@ -1,5 +1,6 @@
 -- The command Select (01, Commands), of an id, a list of bytes, and the 64 bytes of a frame.
-use Rattle.std.specs.Prelude.{ℕ, zero, suc, ◌+◌, ◌*◌, ◌/◌, ◌%◌, ◌^◌, Bool, true, false, ◌&&◌, List, ◌++◌, eqb, leb, length, get_or, take, drop, Option, Some, None}
+use Rattle.std.specs.Prelude.{ℕ, zero, suc, ◌+◌, ◌*◌, ◌/◌, ◌%◌, ◌^◌, Bool, true, false}
+use Rattle.std.specs.Prelude.{◌&&◌, List, ◌++◌, eqb, leb, length, get_or, take, drop, Option, Some, None}
 use Rattle.laws.specs.Pick.{pick}
 use Rattle.wire_numbers.specs.Crc.{crc_of}
 

@@ -47,7 +47,7 @@ fn slot(seed: u8, uid: &[u8]) -> u8
     (window % 16) as u8
 }
 
-// The seed, read before the id is copied over it: one byte by its name, as the fields of a header have theirs.
+// The seed, read before the id is copied over it. One byte, by a name as the header's fields have theirs.
 fn seed_of(f: &FrameBytes) -> u8
     ensures { result ≡ seed_of f.now }
 {

@@ -12,7 +12,8 @@ use lib.Seq.{drop-cons}
 use lib.Dec.{eqb, ltb}
 use Rattle.desk_captures.specs.declared.Record.{Record}
 use Rattle.desk_captures.specs.declared.Fault.{Fault}
-use Rattle.desk_captures.specs.Captures.{is_mark, Front, nothing, stands, fault, counted_of, front_of, Found, recorded, found_by, next_at, record_by, start_of, size_of, after_by}
+use Rattle.desk_captures.specs.Captures.{is_mark, Front, nothing, stands, fault, counted_of, front_of}
+use Rattle.desk_captures.specs.Captures.{Found, recorded, found_by, next_at, record_by, start_of, size_of, after_by}
 use Rattle.desk_captures.specs.Captures.{after_at, part_at, place_at, part_place}
 
 -- what is found at a place with the mark m and the count n, and k bytes after them

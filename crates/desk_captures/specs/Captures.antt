@@ -1,5 +1,6 @@
 -- The bench's captures (02, E12): records, each after a mark of two bytes, which say which way it went and how many bytes it has.
-use Rattle.std.specs.Prelude.{ℕ, zero, suc, ◌+◌, Bool, true, false, ◌&&◌, ◌||◌, List, [], ◌∷◌, length, take, drop, eqb, ltb, if◌then◌else◌, Option, Some, None, Result, Ok, Err}
+use Rattle.std.specs.Prelude.{ℕ, zero, suc, ◌+◌, Bool, true, false, ◌&&◌, ◌||◌, List, [], ◌∷◌}
+use Rattle.std.specs.Prelude.{length, take, drop, eqb, ltb, if◌then◌else◌, Option, Some, None, Result, Ok, Err}
 use Rattle.desk_captures.specs.declared.Record.{Record}
 use Rattle.desk_captures.specs.declared.Fault.{Fault}
 use Rattle.desk_captures.specs.declared.Which.{Which}

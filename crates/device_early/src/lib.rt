@@ -21,7 +21,7 @@ pub enum Outlook {
     Stays,
 }
 
-// Its refusals: two of the start's six are all it has.
+// Its refusals: two of the six are all it has.
 #[derive(Clone, Copy, Debug, PartialEq, Eq)]
 pub enum EarlyError {
     BadSetup,

@@ -99,7 +99,7 @@ fn as_mended(capacity: usize, old: Record) -> Record
     new
 }
 
-// One entry, in its place.
+// One entry, in its place. The list is the caller's flat bytes; parts of three by an iterator are larger on controllers.
 fn enter(list: &mut [u8], n: usize, k: u8, old: u8, new: u8)
     requires { n < 12 }
     ensures { list.new ≡ sets list.old (3 * n) (k ∷ old ∷ new ∷ []) }

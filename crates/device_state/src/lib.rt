@@ -1,4 +1,4 @@
-// Translated from tinyboot, lib/core/src/protocol.rs (MIT OR Apache-2.0); changed: the dispatcher's fields are a state that goes by value, and what its types
+// Translated from tinyboot, lib/core/src/protocol.rs (MIT OR Apache-2.0); changed: the dispatcher's fields are a state, by value or lent, and what its types
 // fix at build time is a setup.
 
 #![tactic(auto)]

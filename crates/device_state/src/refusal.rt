@@ -1,7 +1,8 @@
 // When a call refuses. Ours: the Rust's types rule these out, or it does not look.
 
 ghost use Rattle.std.specs.Prelude.{◌≡◌, ◌≤◌};
-ghost use Rattle.device_state.specs.Refusals.{erase_size_fits, capacity_fits, fits, set_up, run_fits, well_formed, refusal_number, refusal_told, lengths_of, refusal_of};
+ghost use Rattle.device_state.specs.Refusals.{erase_size_fits, capacity_fits, fits, set_up, run_fits};
+ghost use Rattle.device_state.specs.Refusals.{well_formed, refusal_number, refusal_told, lengths_of, refusal_of};
 
 use crate::{CAREFUL, Numbers, Setup};
 use store_flash::storage::{NONE_PENDING, PAGE_SIZE};

@@ -41,6 +41,7 @@ abbrev pub stored_number : Result ⊤ FlashError → ℕ
 stored_number (Ok done) = 0
 stored_number (Err e) = error_number e
 
+-- what is answered, and the cells as they stand afterwards; done, and refused
 abbrev pub leaves : Result ⊤ FlashError → List ℕ → Cells
 leaves r f = record { answer = stored_number r; cells = f }
 

@@ -63,7 +63,7 @@ pub fn write(flash: &mut [u8], offset: usize, bytes: &[u8]) -> Result<(), FlashE
     Ok(())
 }
 
-// The same of the first n bytes: no part can be taken of an array that a struct holds or that is lent.
+// The same of the first n bytes, or of all where there are fewer.
 pub fn write_part(flash: &mut [u8], offset: usize, bytes: &[u8], n: usize) -> Result<(), FlashError>
     ensures { leaves result flash.new ≡ page_written 64 flash.old offset (take n bytes.now) }
 {

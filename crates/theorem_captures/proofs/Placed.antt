@@ -9,7 +9,8 @@ use lib.ListN.{length, take, drop, length-drop, take-append-drop}
 use lib.Seq.{length-take-le, drop-drop}
 use lib.Dec.{T, eqb}
 use Rattle.desk_captures.specs.declared.Compared.{Compared}
-use Rattle.desk_captures.specs.Captures.{Front, nothing, stands, fault, front_of, Found, found_by, next_at, start_of, size_of, part_at, Reading, ended, faulty, next}
+use Rattle.desk_captures.specs.Captures.{Front, nothing, stands, fault, front_of, Found, found_by}
+use Rattle.desk_captures.specs.Captures.{next_at, start_of, size_of, part_at, Reading, ended, faulty, next}
 use Rattle.desk_captures.specs.Captures.{count_of, joined, read_from, alike, compared, compare_of, place_by, difference_place, difference_of}
 use Rattle.desk_captures.proofs.Fronts.{at_end, front_is, fits}
 use Rattle.desk_captures.proofs.Readings.{part_front, counted}

@@ -2,7 +2,8 @@
 -- record by record.
 use Rattle.std.specs.Prelude.{ℕ, ◌+◌, ◌≤◌, ◌≡◌, true, List, [], ◌∷◌, ◌++◌, length, take, drop, Some, None, Ok, Err}
 use Rattle.desk_captures.specs.declared.Compared.{Compared}
-use Rattle.desk_captures.specs.Captures.{is_mark, Found, recorded, next_at, after_at, part_at, Reading, ended, faulty, next, compared, compare_of, difference_of}
+use Rattle.desk_captures.specs.Captures.{is_mark, Found, recorded, next_at, after_at, part_at}
+use Rattle.desk_captures.specs.Captures.{Reading, ended, faulty, next, compared, compare_of, difference_of}
 
 -- what line test records: which way it went, and the bytes
 pub record Item : Type 0 where

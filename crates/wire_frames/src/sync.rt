@@ -11,7 +11,7 @@ impl Sync {
     pub const VALID: Sync = Sync(0xAA, 0x55);
 }
 
-// Test by test, as the definition has them: hunting, how many bytes of the sync word have come after one more, of which `got` had come before it.
+// Hunting: how many bytes of the sync word have come after one more, of which `got` had come before it. Test by test, as the definition has them.
 pub fn hunted(got: usize, b: u8) -> usize
     ensures { result ≡ hunted_of got b }
 {

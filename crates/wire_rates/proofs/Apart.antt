@@ -24,7 +24,9 @@ use Rattle.wire_rates.specs.declared.BaudRate.TheVariants.{
 
 -- the rate with an index
 abbrev entry : ℕ → BaudRate
-entry i = get_or (B9600 ∷ B19200 ∷ B38400 ∷ B57600 ∷ B115200 ∷ B230400 ∷ B460800 ∷ B500000 ∷ B921600 ∷ B1000000 ∷ B1500000 ∷ B2000000 ∷ B2500000 ∷ B3000000 ∷ []) i B9600
+entry i =
+    get_or (B9600 ∷ B19200 ∷ B38400 ∷ B57600 ∷ B115200 ∷ B230400 ∷ B460800 ∷ B500000 ∷ B921600 ∷
+    B1000000 ∷ B1500000 ∷ B2000000 ∷ B2500000 ∷ B3000000 ∷ []) i B9600
 
 rate_back : (r : BaudRate) → entry (baud_index r) ≡ r
 rate_back B9600 = refl

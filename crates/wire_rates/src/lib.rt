@@ -2,8 +2,7 @@
 
 #![tactic(auto)]
 
-ghost use Rattle.std.specs.Prelude.{◌≡◌};
-ghost use Rattle.std.specs.Prelude.{◌==◌, find};
+ghost use Rattle.std.specs.Prelude.{◌≡◌, ◌==◌, find};
 ghost use Rattle.std.specs.Option.{option_map};
 ghost use Rattle.wire_rates.specs.declared.BaudRate.{BaudRate};
 ghost use Rattle.wire_rates.specs.Baud.{baud_index, baud_lookup, hz_of, hz_lookup};
