@@ -7,15 +7,14 @@ ghost use Rattle.tinyboot_c.specs.Inner.{ByteFed, stateless, laid};
 
 use crate::layout::{four, setup_from};
 use crate::state::{lay_numbers, numbers_from};
-use c_layout::{ANSWER_SIZE, GOT, lay_answer};
+use c_layout::{ANSWER_SIZE, GOT, SETUP_SIZE, lay_answer};
 use device_in_place::{byte_on, feed_on};
 use device_replies::{numbers_of, unsaid};
 use device_state::Setup;
 use device_state::refusal::{Refusal, refusal_number, set_up};
 
 // Where the bytes hold no state: the setup's numbers are tried before it.
-pub(crate) fn stateless(setup: &[u8]) -> u8
-    requires { length setup.now ≡ 32 }
+pub(crate) fn stateless(setup: &[u8; SETUP_SIZE]) -> u8
     ensures { result ≡ stateless 64 (setup_from setup.now) }
 {
     if set_up(setup_from(setup)) {
@@ -33,15 +32,14 @@ pub(crate) fn room_for(reply: usize, answer: usize) -> usize
 
 // A piece of one byte that is only stored, and whether it is: with most bytes there is nothing else to do.
 fn fed_byte(
-    setup: &[u8],
+    setup: &[u8; SETUP_SIZE],
     state: &mut [u8],
     bytes: &[u8],
     flash: usize,
     meta: usize,
     room: usize,
 ) -> bool
-    requires setup_len { length setup.now ≡ 32 }
-    requires state_value { holds_state 52 64 state.old ≡ true }
+    requires { holds_state 52 64 state.old ≡ true }
     ensures { ByteFed setup.now state.old bytes.now flash meta room state.new result }
 {
     if bytes.len() != 1 {
@@ -83,7 +81,7 @@ fn fed_piece(
 }
 
 pub(crate) fn fed(
-    setup: &[u8],
+    setup: &[u8; SETUP_SIZE],
     state: &mut [u8],
     bytes: &[u8],
     flash: &mut [u8],
@@ -91,8 +89,7 @@ pub(crate) fn fed(
     reply: &mut [u8],
     answer: &mut [u8],
 ) -> u8
-    requires setup_len { length setup.now ≡ 32 }
-    requires state_value { holds_state 52 64 state.old ≡ true }
+    requires { holds_state 52 64 state.old ≡ true }
     ensures { after_feed result state.new flash.new meta.new reply.new answer.new ≡
         laid (fed_of 52 64 (setup_from setup.now) (world_from 52 64 state.old flash.old meta.old)
         bytes.now reply.old) answer.old }

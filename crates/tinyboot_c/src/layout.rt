@@ -5,6 +5,8 @@ ghost use Rattle.c_layout.specs.Layout.{part, setup_from};
 ghost use Rattle.c_app.specs.App.{app_setup_from};
 
 use app_state::AppSetup;
+use c_app::APP_SETUP_SIZE;
+use c_layout::SETUP_SIZE;
 use device_state::Setup;
 use wire_numbers::le;
 
@@ -31,8 +33,7 @@ fn id_from(setup: &[u8]) -> [u8; 16]
     id
 }
 
-pub(crate) fn setup_from(setup: &[u8]) -> Setup
-    requires { length setup.now ≡ 32 }
+pub(crate) fn setup_from(setup: &[u8; SETUP_SIZE]) -> Setup
     ensures { result ≡ setup_from setup.now }
 {
     Setup {
@@ -46,8 +47,7 @@ pub(crate) fn setup_from(setup: &[u8]) -> Setup
     }
 }
 
-pub(crate) fn app_setup_from(setup: &[u8]) -> AppSetup
-    requires { length setup.now ≡ 33 }
+pub(crate) fn app_setup_from(setup: &[u8; APP_SETUP_SIZE]) -> AppSetup
     ensures { result ≡ app_setup_from setup.now }
 {
     AppSetup {

@@ -17,11 +17,12 @@ ghost use Rattle.tinyboot_c.specs.Calls.{after_feed, c_fed, c_started, c_early, 
 
 use crate::layout::{app_setup_from, setup_from};
 use c_app::{
-    app_fed_in, app_new_in, baud_in, confirm_in, holds_app_setup, position_in, set_baud_in,
+    APP_SETUP_SIZE, app_fed_in, app_new_in, baud_in, confirm_in, position_in, set_baud_in,
 };
-use c_layout::{STATE_SIZE, holds_setup, holds_state, refuse};
+use c_layout::{SETUP_SIZE, STATE_SIZE, holds_state, refuse};
 use c_start::{early_in, new_in, start_in};
 use device_mend::{mend, mend_number};
+use device_state::refusal::{Refusal, refusal_number};
 use wire_numbers::compat_key;
 use wire_numbers::crc::crc16;
 
@@ -67,9 +68,9 @@ pub fn tinyboot_feed(
         c_fed 52 64 setup.now state.old bytes.now flash.old meta.old reply.old
         answer.old }
 {
-    if !holds_setup(setup) {
-        return refuse(answer, 10);
-    }
+    let Some(setup) = setup.as_array::<SETUP_SIZE>() else {
+        return refuse(answer, refusal_number(Refusal::BadSetup));
+    };
     if holds_state(state) {
         let room = feeding::room_for(reply.len(), answer.len());
         return feeding::fed(setup, state, bytes, flash, meta, &mut reply[..room], answer);
@@ -89,20 +90,19 @@ pub fn tinyboot_start(
     ensures { after_start result state.new meta.new answer.new ≡
         c_started 52 64 mode setup.now state.old flash.now meta.old answer.old }
 {
-    if !holds_setup(setup) {
-        return refuse(answer, 10);
-    }
-    let s = setup_from(setup);
-    start_in(mode, s, state, flash, meta, answer)
+    let Some(setup) = setup.as_array::<SETUP_SIZE>() else {
+        return refuse(answer, refusal_number(Refusal::BadSetup));
+    };
+    start_in(mode, setup_from(setup), state, flash, meta, answer)
 }
 
 // Whether a start that asks for this mode will stay, from the record alone: nothing is written.
 pub fn tinyboot_early(mode: u8, setup: &[u8], meta: &[u8]) -> u8
     ensures { result ≡ c_early 64 mode setup.now meta.now }
 {
-    if !holds_setup(setup) {
-        return 10;
-    }
+    let Some(setup) = setup.as_array::<SETUP_SIZE>() else {
+        return refusal_number(Refusal::BadSetup);
+    };
     early_in(mode, setup_from(setup), meta)
 }
 
@@ -118,11 +118,10 @@ pub fn tinyboot_app_feed(
     ensures { after_app result state.new meta.new reply.new answer.new ≡
         c_app_fed 52 64 setup.now state.old bytes.now meta.old reply.old answer.old }
 {
-    if !holds_app_setup(setup) {
-        return refuse(answer, 10);
-    }
-    let s = app_setup_from(setup);
-    app_fed_in(s, state, bytes, meta, reply, answer)
+    let Some(setup) = setup.as_array::<APP_SETUP_SIZE>() else {
+        return refuse(answer, refusal_number(Refusal::BadSetup));
+    };
+    app_fed_in(app_setup_from(setup), state, bytes, meta, reply, answer)
 }
 
 // A new state of the app, where the buffer is as long as one.
@@ -164,8 +163,8 @@ pub fn tinyboot_position(meta: &[u8]) -> u16
 pub fn tinyboot_mend(setup: &[u8], meta: &mut [u8], list: &mut [u8]) -> u8
     ensures { after_mend result meta.new list.new ≡ c_mended 64 setup.now meta.old list.old }
 {
-    if !holds_setup(setup) {
-        return 10;
-    }
+    let Some(setup) = setup.as_array::<SETUP_SIZE>() else {
+        return refusal_number(Refusal::BadSetup);
+    };
     mend_number(mend(setup_from(setup), meta, list))
 }

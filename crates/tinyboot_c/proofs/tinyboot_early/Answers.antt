@@ -1,16 +1,13 @@
-use mathlib.Core.Path.{sym, ◌∙◌}
-use borrow.Author.Tests.{eqb-true}
+use mathlib.Core.Path.{◌∙◌}
+use borrow.Author.Tests.{eq-eqb, ne_eqb}
 use Rattle.tinyboot_c.specs.Calls.{c_early}
 use Rattle.tinyboot_c.proofs.tinyboot_early.Goals as goal
 
-pub returns-then-not-holds_setup : goal.returns-then-not-holds_setup
+pub returns-in_default : goal.returns-in_default
 unfolding c_early
-returns-then-not-holds_setup c = simp (sym c.holds_setup.ensures ∙ c.if-not-holds_setup.true)
-
-pub setup_from-requires : goal.setup_from-requires
-setup_from-requires c = eqb-true _ 32 (sym c.holds_setup.ensures ∙ c.if-not-holds_setup.false)
+returns-in_default c = c.refusal_number.ensures ∙ simp (ne_eqb _ 32 c.in_default.ensures.cases)
 
 pub returns : goal.returns
 unfolding c_early
 returns c =
-    simp (sym c.holds_setup.ensures ∙ c.if-not-holds_setup.false) (rw c.setup_from.ensures at c.early_in.ensures)
+    simp (eq-eqb _ 32 c.in-Some.ensures.cases.long) (rw (c.setup_from.ensures, c.in-Some.ensures.cases.same) at c.early_in.ensures)

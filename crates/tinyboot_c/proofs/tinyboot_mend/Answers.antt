@@ -1,7 +1,7 @@
 use Prim.Native.Nat.{ℕ}
-use mathlib.Core.Path.{◌≡◌, refl, sym, ap, ◌∙◌}
+use mathlib.Core.Path.{◌≡◌, refl, ap, ◌∙◌}
 use mathlib.Core.List.{List}
-use borrow.Author.Tests.{eqb-true}
+use borrow.Author.Tests.{eq-eqb, ne_eqb}
 use lib.Dec.{eqb}
 use Rattle.laws.specs.Pick.{pick}
 use Rattle.std.specs.Prelude.{Result, Ok, Err}
@@ -21,15 +21,12 @@ called : (m : Result ℕ MendError) (meta list : List ℕ) (r : ℕ) → r ≡ m
     after_mend r meta list ≡ mend_called x
 called m meta list r e x k = ap (λ (n : ℕ). after_mend n meta list) (e ∙ in_one m) ∙ ap mend_called k
 
-pub returns-then-not-holds_setup : goal.returns-then-not-holds_setup
+pub returns-in_default : goal.returns-in_default
 unfolding c_mended
-returns-then-not-holds_setup c = rw (sym c.holds_setup.ensures ∙ c.if-not-holds_setup.true) refl
-
-pub setup_from-requires : goal.setup_from-requires
-setup_from-requires c = eqb-true _ 32 (sym c.holds_setup.ensures ∙ c.if-not-holds_setup.false)
+returns-in_default c = rw (c.refusal_number.ensures, ne_eqb _ 32 c.in_default.ensures.cases) refl
 
 pub returns : goal.returns
 unfolding c_mended
 returns c =
-    rw (sym c.holds_setup.ensures ∙ c.if-not-holds_setup.false)
-    (called c.mend.result _ _ _ c.mend_number.ensures _ (rw c.setup_from.ensures at c.mend.ensures))
+    rw (eq-eqb _ 32 c.in-Some.ensures.cases.long)
+    (called c.mend.result _ _ _ c.mend_number.ensures _ (rw (c.setup_from.ensures, c.in-Some.ensures.cases.same) at c.mend.ensures))

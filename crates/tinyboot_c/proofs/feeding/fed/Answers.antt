@@ -25,7 +25,7 @@ returns-then-fed_byte c =
 pub fed_piece-requires : goal.fed_piece-requires
 fed_piece-requires c =
     let e = rw c.if-fed_byte.false at c.fed_byte.ensures in
-    let l : length c.args.state.now ≡ 136 = holds_size c.args.state.now c.requires.state_value in
+    let l : length c.args.state.now ≡ 136 = holds_size c.args.state.now c.requires in
     ap length e ∙ l
 
 pub returns : goal.returns

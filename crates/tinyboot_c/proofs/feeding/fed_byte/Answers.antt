@@ -23,10 +23,10 @@ got_within : (c : After-byte_on) → c.byte_on.result ≡ true → c.numbers_fro
 got_within c t =
     let a = c.args in
     rw c.numbers_from-n.ensures
-    (within a.setup.now a.state.now c.requires.state_value (λ i k. search rules) (get_or a.bytes.now 0 0) a.flash a.meta a.room _ (on_byte c true t))
+    (within a.setup.now a.state.now c.requires (λ i k. search rules) (get_or a.bytes.now 0 0) a.flash a.meta a.room _ (on_byte c true t))
 
 pub numbers_from-n-requires : goal.numbers_from-n-requires
-numbers_from-n-requires c = holds_size c.args.state.now c.requires.state_value
+numbers_from-n-requires c = holds_size c.args.state.now c.requires
 
 pub overflow_add-state : goal.overflow_add-state
 overflow_add-state c = omega (arith, got_within (goal.at.overflow_add-state c).After-byte_on c.if-byte_on.true)
@@ -38,14 +38,14 @@ pub bounds-state-132 : goal.bounds-state-132
 bounds-state-132 c =
     let a = c.args in
     let e = on_byte (goal.at.bounds-state-132 c).After-byte_on true c.if-byte_on.true in
-    omega (arith, after_size a.setup.now a.state.now c.requires.state_value (λ i k. search rules) (get_or a.bytes.now 0 0) a.flash a.meta a.room _ e)
+    omega (arith, after_size a.setup.now a.state.now c.requires (λ i k. search rules) (get_or a.bytes.now 0 0) a.flash a.meta a.room _ e)
 
 pub returns-then-byte_on : goal.returns-then-byte_on
 returns-then-byte_on c =
     let a = c.args in
     let e = on_byte (goal.at.returns-then-byte_on c).After-byte_on true c.if-byte_on.true in
     rw c.numbers_from-n.ensures
-    (piece_stored a.setup.now a.state.now c.requires.state_value (λ i k. search rules) (get_or a.bytes.now 0 0) a.flash a.meta a.room _ e
+    (piece_stored a.setup.now a.state.now c.requires (λ i k. search rules) (get_or a.bytes.now 0 0) a.flash a.meta a.room _ e
     a.bytes.now c.if-bytes-ne1.false refl)
 
 pub returns : goal.returns
