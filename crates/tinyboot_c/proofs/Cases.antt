@@ -7,6 +7,7 @@ use native.Mathlib.Omega.{arith}
 use lib.ListN.{length, get_or, take, drop, drop_of_length-le}
 use lib.Seq.{take-length}
 use lib.Dec.{eqb, ltb}
+use borrow.Author.Tests.{ne_eqb}
 use Rattle.laws.specs.Pick.{pick}
 use Rattle.device_state.specs.declared.Setup.{Setup}
 use Rattle.device_state.specs.declared.Numbers.{Numbers}
@@ -36,6 +37,11 @@ roomless_refuses s f n flash meta = go (set_up 64 s) (well_formed 52 64 s f n) (
     go true true false d = refl
     go true true true false = refl
     go true true true true = refl
+
+-- bytes that are not as many hold no state
+pub no_size : (state : List ℕ) → (length state ≡ 136 → ⊥) → holds_state 52 64 state ≡ false
+unfolding holds_state
+no_size state h = simp (ne_eqb (length state) 136 h)
 
 -- a feed, case by case
 module _ (setup state bytes flash meta reply answer : List ℕ) where

@@ -2,12 +2,12 @@
 ghost use Rattle.std.specs.Prelude.{◌≡◌, length, ltb, true, if◌then◌else◌};
 ghost use Rattle.device_feed.specs.Feed.{fed_of};
 ghost use Rattle.c_layout.specs.Layout.{answer_size, setup_from, holds_state};
-ghost use Rattle.tinyboot_c.specs.Calls.{world_from, after_feed};
+ghost use Rattle.tinyboot_c.specs.Calls.{world_from, after_feed, c_fed};
 ghost use Rattle.tinyboot_c.specs.Inner.{ByteFed, stateless, laid};
 
 use crate::layout::{four, setup_from};
 use crate::state::{lay_numbers, numbers_from};
-use c_layout::{ANSWER_SIZE, GOT, SETUP_SIZE, lay_answer};
+use c_layout::{ANSWER_SIZE, GOT, SETUP_SIZE, STATE_SIZE, lay_answer};
 use device_in_place::{byte_on, feed_on};
 use device_replies::{numbers_of, unsaid};
 use device_state::Setup;
@@ -24,7 +24,7 @@ pub(crate) fn stateless(setup: &[u8; SETUP_SIZE]) -> u8
 }
 
 // How much of the room for a reply is lent on: with none for an answer there is none.
-pub(crate) fn room_for(reply: usize, answer: usize) -> usize
+fn room_for(reply: usize, answer: usize) -> usize
     ensures { result ≡ (if ltb answer answer_size then 0 else reply) }
 {
     if answer < ANSWER_SIZE { 0 } else { reply }
@@ -33,7 +33,7 @@ pub(crate) fn room_for(reply: usize, answer: usize) -> usize
 // A piece of one byte that is only stored, and whether it is: with most bytes there is nothing else to do.
 fn fed_byte(
     setup: &[u8; SETUP_SIZE],
-    state: &mut [u8],
+    state: &mut [u8; STATE_SIZE],
     bytes: &[u8],
     flash: usize,
     meta: usize,
@@ -62,14 +62,13 @@ fn fed_byte(
 // Any bytes.
 fn fed_piece(
     setup: Setup,
-    state: &mut [u8],
+    state: &mut [u8; STATE_SIZE],
     bytes: &[u8],
     flash: &mut [u8],
     meta: &mut [u8],
     reply: &mut [u8],
     answer: &mut [u8],
 ) -> u8
-    requires { length state.old ≡ 136 }
     ensures { after_feed result state.new flash.new meta.new reply.new answer.new ≡
         laid (fed_of 52 64 setup (world_from 52 64 state.old flash.old meta.old) bytes.now
         reply.old) answer.old }
@@ -80,9 +79,9 @@ fn fed_piece(
     lay_answer(answer, numbers_of(p.answer), p.taken)
 }
 
-pub(crate) fn fed(
+fn fed(
     setup: &[u8; SETUP_SIZE],
-    state: &mut [u8],
+    state: &mut [u8; STATE_SIZE],
     bytes: &[u8],
     flash: &mut [u8],
     meta: &mut [u8],
@@ -99,4 +98,22 @@ pub(crate) fn fed(
     }
     let s = setup_from(setup);
     fed_piece(s, state, bytes, flash, meta, reply, answer)
+}
+
+// A feed that lends on no room for a reply where there is none for an answer.
+pub(crate) fn fed_in_room(
+    setup: &[u8; SETUP_SIZE],
+    state: &mut [u8; STATE_SIZE],
+    bytes: &[u8],
+    flash: &mut [u8],
+    meta: &mut [u8],
+    reply: &mut [u8],
+    answer: &mut [u8],
+) -> u8
+    requires { holds_state 52 64 state.old ≡ true }
+    ensures { after_feed result state.new flash.new meta.new reply.new answer.new ≡
+        c_fed 52 64 setup.now state.old bytes.now flash.old meta.old reply.old answer.old }
+{
+    let room = room_for(reply.len(), answer.len());
+    fed(setup, state, bytes, flash, meta, &mut reply[..room], answer)
 }

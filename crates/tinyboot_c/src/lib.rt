@@ -71,11 +71,13 @@ pub fn tinyboot_feed(
     let Some(setup) = setup.as_array::<SETUP_SIZE>() else {
         return refuse(answer, refusal_number(Refusal::BadSetup));
     };
-    if holds_state(state) {
-        let room = feeding::room_for(reply.len(), answer.len());
-        return feeding::fed(setup, state, bytes, flash, meta, &mut reply[..room], answer);
+    let Some(state) = state.as_mut_array::<STATE_SIZE>() else {
+        return refuse(answer, feeding::stateless(setup));
+    };
+    if !holds_state(state) {
+        return refuse(answer, feeding::stateless(setup));
     }
-    refuse(answer, feeding::stateless(setup))
+    feeding::fed_in_room(setup, state, bytes, flash, meta, reply, answer)
 }
 
 // A restart, or the first start: mode 0 asks for the app, every other for Service.

@@ -1,14 +1,13 @@
 // A state in the caller's bytes.
-ghost use Rattle.std.specs.Prelude.{◌≡◌, length};
+ghost use Rattle.std.specs.Prelude.{◌≡◌};
 ghost use Rattle.std.proofs.Math.Seq.{paste};
 ghost use Rattle.c_layout.specs.Layout.{number_bytes, numbers_from};
 
 use crate::layout::four;
-use c_layout::{CLOSED, FILL, GOT, NEXT, SELECTED, number_bytes};
+use c_layout::{CLOSED, FILL, GOT, NEXT, SELECTED, STATE_SIZE, number_bytes};
 use device_state::Numbers;
 
-pub(crate) fn numbers_from(s: &[u8]) -> Numbers
-    requires { length s.now ≡ 136 }
+pub(crate) fn numbers_from(s: &[u8; STATE_SIZE]) -> Numbers
     ensures { result ≡ numbers_from 52 64 s.now }
 {
     Numbers {
@@ -21,8 +20,7 @@ pub(crate) fn numbers_from(s: &[u8]) -> Numbers
 }
 
 // What a state has beside its arrays, laid where it stands.
-pub(crate) fn lay_numbers(s: &mut [u8], n: Numbers)
-    requires { length s.old ≡ 136 }
+pub(crate) fn lay_numbers(s: &mut [u8; STATE_SIZE], n: Numbers)
     ensures { s.new ≡ paste s.old 128 (number_bytes n) 8 }
 {
     s[NEXT..].copy_from_slice(&number_bytes(n));

@@ -22,12 +22,6 @@ returns-then-fed_byte c =
     (fed_of 52 64 (setup_from a.setup.now) (world_from 52 64 a.state.now a.flash.now a.meta.now) a.bytes.now a.reply.now)
     (e a.flash.now a.meta.now a.reply.now a.answer.now refl refl refl)
 
-pub fed_piece-requires : goal.fed_piece-requires
-fed_piece-requires c =
-    let e = rw c.if-fed_byte.false at c.fed_byte.ensures in
-    let l : length c.args.state.now ≡ 136 = holds_size c.args.state.now c.requires in
-    ap length e ∙ l
-
 pub returns : goal.returns
 returns c =
     let a = c.args in

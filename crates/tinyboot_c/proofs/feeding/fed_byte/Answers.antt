@@ -3,7 +3,6 @@ use mathlib.Core.Path.{◌≡◌, refl}
 use mathlib.Core.Bool.{Bool, true, false}
 use lib.ListN.{get_or}
 use Rattle.device_in_place.proofs.Quick.{byte_kept}
-use Rattle.c_layout.proofs.Holding.{holds_size}
 use Rattle.tinyboot_c.proofs.Single.{OnByte, byte_known, within, after_size, piece_stored}
 use native.Mathlib.Omega.{arith}
 use borrow.Author.Rules.{rules}
@@ -24,9 +23,6 @@ got_within c t =
     let a = c.args in
     rw c.numbers_from-n.ensures
     (within a.setup.now a.state.now c.requires (λ i k. search rules) (get_or a.bytes.now 0 0) a.flash a.meta a.room _ (on_byte c true t))
-
-pub numbers_from-n-requires : goal.numbers_from-n-requires
-numbers_from-n-requires c = holds_size c.args.state.now c.requires
 
 pub overflow_add-state : goal.overflow_add-state
 overflow_add-state c = omega (arith, got_within (goal.at.overflow_add-state c).After-byte_on c.if-byte_on.true)
