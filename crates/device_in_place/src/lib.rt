@@ -139,7 +139,7 @@ fn refuses(
     refusal::of_lengths(setup.capacity, flash, meta, room, n.closed)
 }
 
-// The call: `feed_in` with both arrays in one slice.
+// The call: `feed_in` with both arrays in one slice, and the numbers lent beside it.
 pub fn feed_on(
     setup: Setup,
     n: &mut Numbers,

@@ -50,9 +50,6 @@ refusal_back Refusal.BadRecord = refl
 refusal_back Refusal.NoRoom = refl
 refusal_back Refusal.Closed = refl
 
-pub refusal_apart : (a b : Refusal) → refusal_number a ≡ refusal_number b → a ≡ b
-refusal_apart = apart refusal_number refusal_from refusal_back
-
 -- a refusal or none, which is 0
 abbrev refused_number : Option Refusal → ℕ
 refused_number r = unwrap_or (option_map refusal_number r) 0

@@ -2,7 +2,6 @@
 use Rattle.theorem_determined.specs.Determined.{Determined}
 use Rattle.theorem_determined.proofs.Apart.{plain, refused_apart, outcome_apart, answer_apart, outlook_apart, mended_apart}
 use Rattle.wire_numbers.proofs.Apart.{status_apart, mode_apart}
-use Rattle.wire_frames.proofs.Apart.{kind_apart}
 use Rattle.device_state.proofs as device_state
 use Rattle.device_state.specs.contracts as device_state_contracts
 use Rattle.device_boot.proofs as device_boot
