@@ -34,14 +34,14 @@ const SELECTED: usize = GOT + 1;
 
 const CLOSED: usize = GOT + 2;
 
-// Whether these bytes are as many as a setup's.
+// Whether these bytes are as many as a setup's: the exported call tells it by an array's type, and theorem_determined still names this function.
 pub fn holds_app_setup(setup: &[u8]) -> bool
     ensures { result ≡ eqb (length setup.now) app_setup_size }
 {
     setup.len() == APP_SETUP_SIZE
 }
 
-// Whether these bytes are a state's: as many, and flags that are 0 or 1.
+// Whether these bytes are a state's: as many, and flags that are 0 or 1. A device's state (c_layout) has its flags at other places.
 #[tactic(auto, unfolding(crate::specs::App::holds_app))]
 fn holds_app(state: &[u8]) -> bool
     ensures { result ≡ holds_app 52 state.now }
@@ -49,6 +49,7 @@ fn holds_app(state: &[u8]) -> bool
     state.len() == APP_STATE_SIZE && state[SELECTED] < 2 && state[CLOSED] < 2
 }
 
+// As of a device's state, but for the run of writes, which an app has not, and at other places.
 fn numbers_from(s: &[u8]) -> AppNumbers
     requires { length s.now ≡ app_state_size 52 }
     ensures { result ≡ app_numbers_from 52 s.now }
@@ -99,7 +100,7 @@ fn lay_app(s: &mut [u8], app: &AppState)
     s[..FRAME].copy_from_slice(&app.frame);
 }
 
-// A new state, where the buffer is as long as one.
+// A new state, where the buffer is as long as one: a device's new state (c_start) has another length and other bytes.
 pub fn app_new_in(state: &mut [u8]) -> u8
     ensures { after_new result state.new ≡ c_app_new 52 state.old }
 {
@@ -197,11 +198,11 @@ pub fn baud_in(meta: &[u8], default: u8) -> u32
     ensures { result ≡ c_baud meta.now default }
 {
     let Some(rate) = BaudRate::from_u8(default) else {
-        return 10;
+        return u32::from(refusal_number(Refusal::BadSetup));
     };
     match baud(meta, rate) {
         Ok(rate) => rate.hz(),
-        Err(BadRecord) => 13,
+        Err(BadRecord) => u32::from(refusal_number(Refusal::BadRecord)),
     }
 }
 
@@ -211,6 +212,6 @@ pub fn position_in(meta: &[u8]) -> u16
 {
     match position(meta) {
         Ok(place) => place as u16,
-        Err(BadRecord) => 256 + 13,
+        Err(BadRecord) => 256 + u16::from(refusal_number(Refusal::BadRecord)),
     }
 }

@@ -34,14 +34,14 @@ pub const SELECTED: usize = NEXT + 6;
 
 pub const CLOSED: usize = NEXT + 7;
 
-// Whether these bytes are as many as a setup's.
+// Whether these bytes are as many as a setup's: the exported calls tell it by an array's type, and theorem_determined still names this function.
 pub fn holds_setup(setup: &[u8]) -> bool
     ensures { result ≡ eqb (length setup.now) setup_size }
 {
     setup.len() == SETUP_SIZE
 }
 
-// Whether these bytes are a state's: as many, and flags that are 0 or 1.
+// Whether these bytes are a state's: as many, and flags that are 0 or 1. An app's state (c_app) has its flags at other places.
 #[tactic(auto, unfolding(crate::specs::Layout::holds_state))]
 pub fn holds_state(state: &[u8]) -> bool
     ensures { result ≡ holds_state 52 64 state.now }

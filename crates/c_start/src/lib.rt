@@ -28,7 +28,7 @@ fn lay_new(s: &mut [u8], closed: bool)
     s.copy_from_slice(&new);
 }
 
-// An open new state, where the buffer is as long as a state.
+// An open new state, where the buffer is as long as a state: an app's new state (c_app) has another length and other bytes.
 pub fn new_in(state: &mut [u8]) -> u8
     ensures { after_new result state.new ≡ c_new 52 64 state.old }
 {

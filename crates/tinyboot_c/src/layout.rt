@@ -33,6 +33,7 @@ fn id_from(setup: &[u8]) -> [u8; 16]
     id
 }
 
+// This and the next fill two structs, which differ in the last field: a struct of the six that both have would be one name more in each rule (app_state).
 pub(crate) fn setup_from(setup: &[u8; SETUP_SIZE]) -> Setup
     ensures { result ≡ setup_from setup.now }
 {

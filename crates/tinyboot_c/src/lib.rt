@@ -1,4 +1,5 @@
 // The device for programs in C or Rust: each call takes and leaves plain bytes. Ours: the Rust has no such interface.
+// Names and parameters are those of include/tinyboot.h: each buffer is a parameter of its own there, so that no struct gathers them here.
 
 #![tactic(auto)]
 
@@ -47,7 +48,7 @@ pub fn tinyboot_key(name: &[u8]) -> u32
     compat_key(name)
 }
 
-// An open new state, where the buffer is as long as a state.
+// An open new state, where the buffer is as long as a state. C calls it and the app's by their two names.
 pub fn tinyboot_new_state(state: &mut [u8]) -> u8
     ensures { after_new result state.new ≡ c_new 52 64 state.old }
 {

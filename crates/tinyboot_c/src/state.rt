@@ -7,6 +7,7 @@ use crate::layout::four;
 use c_layout::{CLOSED, FILL, GOT, NEXT, SELECTED, STATE_SIZE, number_bytes};
 use device_state::Numbers;
 
+// An app's numbers (c_app) are others, at other places.
 pub(crate) fn numbers_from(s: &[u8; STATE_SIZE]) -> Numbers
     ensures { result ≡ numbers_from 52 64 s.now }
 {
