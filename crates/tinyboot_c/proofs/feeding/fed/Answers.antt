@@ -5,8 +5,6 @@ use Rattle.device_feed.specs.Feed.{fed_of}
 use Rattle.c_layout.specs.Layout.{setup_from}
 use Rattle.tinyboot_c.specs.Calls.{AfterFeed, world_from}
 use mathlib.Core.Path.{◌≡◌, refl, ap, ◌∙◌}
-use lib.ListN.{length}
-use Rattle.c_layout.proofs.Holding.{holds_size}
 use Rattle.tinyboot_c.specs.Inner.{laid}
 use Rattle.tinyboot_c.proofs.Single.{byte_answered}
 use Rattle.tinyboot_c.proofs.feeding.fed.Goals as goal
