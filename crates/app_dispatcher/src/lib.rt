@@ -121,7 +121,7 @@ fn mode(f: &FrameBytes) -> RunMode
     asked.run_mode()
 }
 
-// A Reset replies nothing: the caller resets.
+// A Reset replies nothing: the caller resets. What the turn said comes in three parameters: a struct of them would be made for this one call.
 fn speak(
     chosen: bool,
     setup: AppSetup,

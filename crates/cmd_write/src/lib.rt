@@ -57,7 +57,7 @@ fn lay(page: &mut Page, at: u32, d: &[u8], i: u32, m: u32)
     page[at as usize..(at + m) as usize].copy_from_slice(&d[i as usize..(i + m) as usize]);
 }
 
-// m bytes more, from the i-th on, for which the page has room.
+// m bytes more, from the i-th on, for which the page has room. Page and flash stand beside the run, which goes by value.
 fn took(w: Run, d: &[u8], i: u32, m: u32, page: &mut Page, flash: &mut [u8]) -> Run
     requires { (0 < m) × (w.fill + m ≤ 64) × (i + m ≤ length d.now) × (w.fill ≤ w.next) × (w.next < 2 ^ 25) × (length d.now ≤ 54) }
     ensures { running flash.new page.new result.fill result.next result.failed ≡
@@ -175,7 +175,8 @@ fn written(f: &FrameBytes, page: &mut Page, flash: &mut [u8]) -> Run
     w
 }
 
-// What is taken stays in the page until that is full, or until a Write ends the run. A refusal changes nothing.
+// What is taken stays in the page until that is full, or until a Write ends the run. A refusal changes nothing. The run's page, fill and end come one by one: the
+// state that holds them stands above this crate.
 #[tactic(auto, unfolding(crate::specs::Write::write_of))]
 pub fn cmd_write(
     capacity: usize,

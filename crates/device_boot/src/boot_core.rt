@@ -35,7 +35,7 @@ fn use_trial(meta: &mut [u8]) -> bool
     false
 }
 
-// Whether the record lets a start go on to the image.
+// Whether the record lets a start go on to the image: an answer for each state, and the third uses a trial.
 #[tactic(auto, unfolding(crate::specs::Start::cleared_of))]
 fn cleared(meta: &mut [u8]) -> bool
     ensures { clears result meta.new ≡ cleared_of meta.old }

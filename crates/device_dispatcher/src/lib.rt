@@ -70,7 +70,7 @@ fn done(
     device_handler::bare(status_of(kind))
 }
 
-// A frame that has ended in this way.
+// A frame that has ended in this way. What is lent comes one by one, as to `feed`.
 pub fn dispatch(
     setup: Setup,
     kind: Kind,

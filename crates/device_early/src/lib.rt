@@ -55,7 +55,7 @@ pub fn is_sizeless(capacity: usize, meta: &[u8]) -> bool
     size == 0 || capacity < size
 }
 
-// What the record says of any flash.
+// What the record says of any flash, case by case as the definition has them.
 #[tactic(auto, unfolding(crate::specs::Early::record_stays))]
 fn record_stays(careful: bool, capacity: usize, meta: &[u8]) -> bool
     ensures { result ≡ record_stays careful capacity meta.now }

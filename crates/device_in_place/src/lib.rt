@@ -21,7 +21,7 @@ use wire_frames::frame;
 use wire_frames::frame::{FRAME, FrameBytes, Kind};
 use wire_numbers::le;
 
-// Both arrays.
+// Both arrays. Here too what is lent comes one by one, as C hands it over (device_feed).
 const STATE: usize = FRAME + PAGE_SIZE;
 
 // An array's bytes from a place on.

@@ -104,7 +104,7 @@ fn flags(f: &FrameBytes) -> ResetFlags
     ResetFlags { bits: f[7] }
 }
 
-// The reply is built in the frame and sent into the room.
+// The reply is built in the frame and sent into the room. Status, length and restart are a command's, the wait is a turn's: no struct has all four.
 pub fn reply(
     status: Status,
     len: u16,

@@ -115,7 +115,7 @@ pub fn of_lengths(
     Ok(())
 }
 
-// Whether a call of `feed` is refused, and how: the first in the table that applies.
+// Whether a call of `feed` is refused, and how: the first in the table that applies. Of what is lent it takes the lengths alone.
 #[tactic(auto, unfolding(crate::specs::Refusals::refusal_of))]
 pub fn refuses(
     setup: Setup,

@@ -33,7 +33,7 @@ fn listening() -> Setup {
     }
 }
 
-// One call, as far as the end of a frame.
+// One call, as far as the end of a frame. Flash and record are lent beside the module, which goes by value.
 fn call(
     out: &mut impl Write,
     m: Module,

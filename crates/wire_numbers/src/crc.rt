@@ -49,7 +49,7 @@ fn high_first(b0: u8, b1: u8, b2: u8, b3: u8, b4: u8, b5: u8, b6: u8, b7: u8) ->
     (v + w) + (x + y)
 }
 
-// Eight bytes more.
+// Eight bytes more, each by itself: what is in registers already is not stored to be an array.
 fn eight(crc: u16, b0: u8, b1: u8, b2: u8, b3: u8, b4: u8, b5: u8, b6: u8, b7: u8) -> u16
     ensures { result ≡ crc_bytes crc (b0 ∷ b1 ∷ b2 ∷ b3 ∷ b4 ∷ b5 ∷ b6 ∷ b7 ∷ []) }
 {
