@@ -1,5 +1,5 @@
-// A start of a setup by value on a C program's state, record and answer; and a new state. Ours: the Rust has no such interface. What C lends comes one by one, as
-// in its header.
+// A start of a setup by value on a C program's state, record and answer; and a new state. Ours: the Rust has no such interface. What C lends comes one by one,
+// as in its header.
 
 #![tactic(auto)]
 

@@ -175,8 +175,8 @@ fn written(f: &FrameBytes, page: &mut Page, flash: &mut [u8]) -> Run
     w
 }
 
-// What is taken stays in the page until that is full, or until a Write ends the run. A refusal changes nothing. The run's page, fill and end come one by one: the
-// state that holds them stands above this crate.
+// What is taken stays in the page until that is full, or until a Write ends the run. A refusal changes nothing. The run's page, fill and end come one by one:
+// the state that holds them stands above this crate.
 #[tactic(auto, unfolding(crate::specs::Write::write_of))]
 pub fn cmd_write(
     capacity: usize,

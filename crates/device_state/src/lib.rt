@@ -8,8 +8,8 @@ pub mod refusal;
 use store_flash::storage::Page;
 use wire_frames::frame::FrameBytes;
 
-// The numbers that a device is built with. An id of length 0 is an unaddressed device; id bytes past the length count for nothing: C
-// hands an id as sixteen bytes and a length.
+// The numbers that a device is built with. An id of length 0 is an unaddressed device; id bytes past the length count for
+// nothing: C hands an id as sixteen bytes and a length.
 #[derive(Clone, Copy)]
 pub struct Setup {
     pub erase_size: usize,

@@ -30,7 +30,7 @@ fn room_for(reply: usize, answer: usize) -> usize
     if answer < ANSWER_SIZE { 0 } else { reply }
 }
 
-// A piece of one byte that is only stored, and whether it is: with most bytes there is nothing else to do. It stores between its tests, so they are no one test.
+// A piece of one byte that is only stored, and whether it is: with most bytes there is nothing else to do. It stores between its tests, so they stand apart.
 fn fed_byte(
     setup: &[u8; SETUP_SIZE],
     state: &mut [u8; STATE_SIZE],
