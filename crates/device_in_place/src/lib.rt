@@ -177,11 +177,9 @@ fn is_plain(f: &[u8], got: u32) -> bool
 fn lay_byte(f: &mut [u8], got: usize, device: bool, b: u8) -> bool
     ensures { laid_to result f.new ≡ lay_byte_of 52 device f.old got b }
 {
-    if frame::begins(f, got, device) {
-        if is_plain(f, got as u32) {
-            f[got] = b;
-            return true;
-        }
+    if frame::begins(f, got, device) && is_plain(f, got as u32) {
+        f[got] = b;
+        return true;
     }
     false
 }
@@ -221,10 +219,8 @@ pub fn byte_on(
 ) -> bool
     ensures { laid_to result s.new ≡ byte_on 52 64 erase capacity id_len start_kind n s.old b flash meta room }
 {
-    if clear(erase, capacity, id_len, start_kind, n, flash, meta, room) {
-        if STATE <= s.len() {
-            return lay_byte(&mut s[..FRAME], n.got, true, b);
-        }
+    if clear(erase, capacity, id_len, start_kind, n, flash, meta, room) && STATE <= s.len() {
+        return lay_byte(&mut s[..FRAME], n.got, true, b);
     }
     false
 }

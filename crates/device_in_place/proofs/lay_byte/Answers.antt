@@ -4,6 +4,7 @@ use native.Mathlib.Omega.{arith}
 use lib.ListN.{length}
 use Rattle.wire_frames.proofs.Parts.{part_length}
 use Rattle.device_in_place.proofs.Plain.{begun-within, lay_done, lay_elsewhere, lay_none}
+use Rattle.device_in_place.proofs.lay_byte.Goals.{else-begins-via-then-begins+else-is_plain, else-begins-via-else-begins}
 use Rattle.device_in_place.proofs.lay_byte.Goals as goal
 
 pub overflow_cast-got : goal.overflow_cast-got
@@ -30,13 +31,11 @@ returns-then-is_plain c =
     lay_done 52 a.device a.f.now a.got a.b (sym c.begins.ensures ∙ c.if-begins.true)
     (sym c.is_plain.ensures ∙ c.if-is_plain.true)
 
-pub returns-else-is_plain : goal.returns-else-is_plain
-returns-else-is_plain c =
+pub returns : goal.returns
+returns c =
     let a = c.args in
-    lay_elsewhere 52 a.device a.f.now a.got a.b (sym c.begins.ensures ∙
-    c.if-begins.true) (sym c.is_plain.ensures ∙ c.if-is_plain.false)
-
-pub returns-else-begins : goal.returns-else-begins
-returns-else-begins c =
-    let a = c.args in
-    lay_none 52 a.device a.f.now a.got a.b (sym c.begins.ensures ∙ c.if-begins.false)
+    elim c.else-begins.branch [
+      | else-begins-via-then-begins+else-is_plain w ↦
+          lay_elsewhere 52 a.device a.f.now a.got a.b (sym c.begins.ensures ∙ w.if-begins.true) (sym w.is_plain.ensures ∙ w.if-is_plain.false)
+      | else-begins-via-else-begins w ↦ lay_none 52 a.device a.f.now a.got a.b (sym c.begins.ensures ∙ w.if-begins.false)
+    ]
