@@ -30,6 +30,11 @@ pub new_laid : (s : List ℕ) → length s ≡ 67 → after_new 0 (app_bytes (ne
 unfolding Calls.c_app_new
 new_laid s h = simp (eq-eqb (length s) 67 h)
 
+-- bytes that are not as many hold no state
+pub no_size : (state : List ℕ) → (length state ≡ 67 → ⊥) → holds_app 52 state ≡ false
+unfolding holds_app
+no_size state h = simp (ne_eqb (length state) 67 h)
+
 -- what the code of a feed leaves
 pub called : (answer : List ℕ) (p : Passed) (y : AppState) (meta room : List ℕ) (x : Called) → passed_to p y meta room ≡ x →
     (said : Said) → told_by said ≡ told_of p.answer → (r : ℕ) → r ≡ said.number →

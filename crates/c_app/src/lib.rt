@@ -8,7 +8,7 @@ ghost use Rattle.app_record.specs.Changes.{leaves, confirm_of};
 ghost use Rattle.app_client.specs.Feed.{app_fed_of};
 ghost use Rattle.c_layout.specs.Layout.{part, answer_size};
 ghost use Rattle.c_start.specs.Start.{after_new};
-ghost use Rattle.c_app.specs.App.{app_setup_size, app_state_size, holds_app, app_numbers_from, app_from, app_number_bytes, app_bytes};
+ghost use Rattle.c_app.specs.App.{app_setup_size, holds_app, app_numbers_from, app_from, app_number_bytes, app_bytes};
 ghost use Rattle.c_app.specs.Calls.{after_app, app_roomless, app_world_from, app_called, app_fed_in, c_app_new, c_set_baud};
 ghost use Rattle.c_app.specs.Calls.{c_baud, c_position};
 
@@ -41,17 +41,16 @@ pub fn holds_app_setup(setup: &[u8]) -> bool
     setup.len() == APP_SETUP_SIZE
 }
 
-// Whether these bytes are a state's: as many, and flags that are 0 or 1. A device's state (c_layout) has its flags at other places.
+// Whether these bytes, as many as a state's, are one: flags that are 0 or 1. A device's state (c_layout) has its flags at other places.
 #[tactic(auto, unfolding(crate::specs::App::holds_app))]
-fn holds_app(state: &[u8]) -> bool
+fn holds_app(state: &[u8; APP_STATE_SIZE]) -> bool
     ensures { result ≡ holds_app 52 state.now }
 {
-    state.len() == APP_STATE_SIZE && state[SELECTED] < 2 && state[CLOSED] < 2
+    state[SELECTED] < 2 && state[CLOSED] < 2
 }
 
 // As of a device's state, but for the run of writes, which an app has not, and at other places.
-fn numbers_from(s: &[u8]) -> AppNumbers
-    requires { length s.now ≡ app_state_size 52 }
+fn numbers_from(s: &[u8; APP_STATE_SIZE]) -> AppNumbers
     ensures { result ≡ app_numbers_from 52 s.now }
 {
     AppNumbers {
@@ -61,8 +60,7 @@ fn numbers_from(s: &[u8]) -> AppNumbers
     }
 }
 
-fn frame_from(s: &[u8]) -> FrameBytes
-    requires { length s.now ≡ app_state_size 52 }
+fn frame_from(s: &[u8; APP_STATE_SIZE]) -> FrameBytes
     ensures { result ≡ part 0 64 s.now }
 {
     let mut f = [0u8; FRAME];
@@ -71,8 +69,7 @@ fn frame_from(s: &[u8]) -> FrameBytes
 }
 
 // The state that these bytes stand for.
-fn app_from(s: &[u8]) -> AppState
-    requires { length s.now ≡ app_state_size 52 }
+fn app_from(s: &[u8; APP_STATE_SIZE]) -> AppState
     ensures { result ≡ app_from 52 s.now }
 {
     AppState {
@@ -82,8 +79,7 @@ fn app_from(s: &[u8]) -> AppState
 }
 
 // What a state has beside its frame, laid where it stands.
-fn lay_numbers(s: &mut [u8], n: AppNumbers)
-    requires { length s.old ≡ app_state_size 52 }
+fn lay_numbers(s: &mut [u8; APP_STATE_SIZE], n: AppNumbers)
     ensures { s.new ≡ part 0 64 s.old ++ app_number_bytes n }
 {
     s[GOT] = (n.got % 256) as u8;
@@ -92,8 +88,7 @@ fn lay_numbers(s: &mut [u8], n: AppNumbers)
 }
 
 // A state, laid over bytes that are as many.
-fn lay_app(s: &mut [u8], app: &AppState)
-    requires { length s.old ≡ app_state_size 52 }
+fn lay_app(s: &mut [u8; APP_STATE_SIZE], app: &AppState)
     ensures { s.new ≡ app_bytes app.now }
 {
     lay_numbers(s, app.numbers);
@@ -104,9 +99,9 @@ fn lay_app(s: &mut [u8], app: &AppState)
 pub fn app_new_in(state: &mut [u8]) -> u8
     ensures { after_new result state.new ≡ c_app_new 52 state.old }
 {
-    if state.len() != APP_STATE_SIZE {
+    let Some(state) = state.as_mut_array::<APP_STATE_SIZE>() else {
         return refusal_number(Refusal::BadState);
-    }
+    };
     lay_app(state, &app_new());
     0
 }
@@ -118,8 +113,7 @@ fn app_set_up(setup: AppSetup) -> bool
 }
 
 // With no room for an answer: as if there were none for a reply.
-fn unanswered(setup: AppSetup, state: &[u8], meta: usize) -> u8
-    requires { length state.now ≡ app_state_size 52 }
+fn unanswered(setup: AppSetup, state: &[u8; APP_STATE_SIZE], meta: usize) -> u8
     ensures { result ≡ app_roomless 52 64 setup (app_from 52 state.now) meta }
 {
     let app = app_from(state);
@@ -132,14 +126,13 @@ fn unanswered(setup: AppSetup, state: &[u8], meta: usize) -> u8
 // The state is taken out, and laid back.
 fn fed(
     setup: AppSetup,
-    state: &mut [u8],
+    state: &mut [u8; APP_STATE_SIZE],
     bytes: &[u8],
     meta: &mut [u8],
     reply: &mut [u8],
     answer: &mut [u8],
 ) -> u8
-    requires state_len { length state.old ≡ app_state_size 52 }
-    requires answer_size_in_bounds { answer_size ≤ length answer.old }
+    requires { answer_size ≤ length answer.old }
     ensures { after_app result state.new meta.new reply.new answer.new ≡
         app_called (app_fed_of 52 64 setup (app_world_from 52 state.old meta.old) bytes.now reply.old)
         answer.old }
@@ -165,13 +158,15 @@ pub fn app_fed_in(
     if !app_set_up(setup) {
         return refuse(answer, refusal_number(Refusal::BadSetup));
     }
-    if !holds_app(state) {
-        return refuse(answer, refusal_number(Refusal::BadState));
+    match state.as_mut_array::<APP_STATE_SIZE>() {
+        Some(state) if holds_app(state) => {
+            if answer.len() < ANSWER_SIZE {
+                return unanswered(setup, state, meta.len());
+            }
+            fed(setup, state, bytes, meta, reply, answer)
+        }
+        _ => refuse(answer, refusal_number(Refusal::BadState)),
     }
-    if answer.len() < ANSWER_SIZE {
-        return unanswered(setup, state, meta.len());
-    }
-    fed(setup, state, bytes, meta, reply, answer)
 }
 
 // The app on trial stays.

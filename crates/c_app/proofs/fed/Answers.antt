@@ -12,4 +12,4 @@ returns c =
     let x : Called = app_fed_of 52 64 a.setup (app_world_from 52 a.state.now a.meta.now) a.bytes.now a.reply.now in
     let v = c.lay_answer.ensures in
     called a.answer.now c.app_feed_in-p.result _ _ _ x e _ c.numbers_of.ensures _ v.0 _
-    c.lay_app.ensures _ (v.1 ∙ sym (answer_laid _ _ a.answer.now c.requires.answer_size_in_bounds))
+    c.lay_app.ensures _ (v.1 ∙ sym (answer_laid _ _ a.answer.now c.requires))
