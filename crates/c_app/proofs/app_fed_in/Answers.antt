@@ -1,4 +1,4 @@
-use Rattle.std.proofs.Common.{◌≡◌, ℕ, List, Bool, false, length, sym, ◌∙◌, rules}
+use Rattle.std.proofs.Common.{◌≡◌, ℕ, List, false, length, sym, ◌∙◌, rules}
 use Rattle.c_app.proofs.Cases.{no_size, unset, no_state, short, carried}
 use Rattle.c_app.specs.App.{holds_app}
 use Rattle.c_app.specs.Calls.{after_app, app_fed_in}
