@@ -15,15 +15,6 @@ use Rattle.c_desk.specs.Captures.{told, told_in, record_of, found_bytes, c_next,
 abbrev pub eight : List ℕ → List ℕ → List ℕ
 eight s l = get_or s 0 0 ∷ get_or s 1 0 ∷ get_or s 2 0 ∷ get_or s 3 0 ∷ get_or s 4 0 ∷ get_or s 5 0 ∷ get_or s 6 0 ∷ get_or s 7 0 ∷ l
 
--- the bytes, of their parts
-pub found-laid : (f : Found) (after : ℕ) (r : Record) (k : ℕ) (s a : List ℕ) → r ≡ record_of f → s ≡ low_bytes 8 r.start → a ≡ low_bytes 8 after →
-    k ≡ number_of f → k ∷ r.mark ∷ (low_bytes 2 r.len ++ (0 ∷ 0 ∷ 0 ∷ 0 ∷ eight s (eight a []))) ≡ found_bytes f after
-found-laid f after r k s a er es ea ek = rw (es, ea, er, ek) refl
-
-pub compared-laid : (c : Compared) (at k m : ℕ) (s : List ℕ) → at ≡ compared_place c → s ≡ low_bytes 8 at → k ≡ compared_number c → m ≡ compared_capture c →
-    k ∷ m ∷ 0 ∷ 0 ∷ 0 ∷ 0 ∷ 0 ∷ 0 ∷ eight s [] ≡ compared_bytes c
-compared-laid c at k m s et es ek em = rw (es, et, ek, em) refl
-
 -- no room, and room
 module _ (size : ℕ) (room : List ℕ) where
   no_room : (k : ℕ) (new : List ℕ) → length room < size → told 14 room ≡ told_in size room k new

@@ -17,10 +17,6 @@ use Rattle.c_desk.proofs.Laid.{eight}
 use Rattle.c_desk.specs.Desk.{asked, c_asked, after_hear, heard_bytes, heard_to, unheard_of, c_heard}
 use Rattle.c_desk.specs.Inner.{heard_number, heard_head, heard_kind, laid_bytes}
 
--- a request, of its number
-pub asked_of : (a : Result ℕ RequestError) (room : List ℕ) (w : Wrote) (n : ℕ) → n ≡ written_number a → written_to a room ≡ w → asked n room ≡ c_asked w
-asked_of a room w n e k = ap (λ (x : ℕ). asked x room) e ∙ ap c_asked k
-
 -- what was heard, as the code lays it and as it is told
 pub laid-told : (h : code.Heard) (f : List ℕ) (g n : ℕ) → laid_bytes h g n ≡ heard_bytes (hearing_to f g n h)
 laid-told code.Heard.Nothing f g n = refl
@@ -38,13 +34,6 @@ number_told (code.Heard.Request k) f = refl
 number_told (code.Heard.Reply k c) f = refl
 number_told (code.Heard.Faulty status) f = refl
 number_told code.Heard.Refused f = refl
-
--- the 24 bytes, of their parts
-pub laid_of : (h : code.Heard) (f : Head) (a l p : List ℕ) (n k g t : ℕ) → f ≡ heard_head h → a ≡ low_bytes 4 f.addr → l ≡ low_bytes 2 f.len →
-    p ≡ low_bytes 8 t → n ≡ heard_number h → k ≡ heard_kind h →
-    n ∷ f.cmd ∷ f.status ∷ f.flags ∷ get_or a 0 0 ∷ get_or a 1 0 ∷ get_or a 2 0 ∷ get_or a 3 0 ∷ get_or l 0 0 ∷ get_or l 1 0 ∷
-    (low_bytes 2 g ++ (k ∷ 0 ∷ 0 ∷ 0 ∷ eight p [])) ≡ laid_bytes h g t
-laid_of h f a l p n k g t ef ea el ep en ek = rw (ea, el, ep, ef, en, ek) refl
 
 module _ (cap : ℕ) (f : List ℕ) (g : ℕ) (l heard : List ℕ) where
   pub not_heard : length heard < 24 → (r : ℕ) → r ≡ unheard_of cap f g → after_hear r f heard ≡ c_heard cap f g l heard

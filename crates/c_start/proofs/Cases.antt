@@ -57,12 +57,6 @@ pub new_started : (x : Booted) (cap page : ℕ) (s : Setup) (mode : ℕ) (flash 
 new_started x cap page s mode flash meta e =
     ap (λ (v : Booted). new_state cap page v.state.numbers.closed) e ∙ sym (new_always cap page s mode flash meta) ∙ ap (λ (v : Booted). v.state) (sym e)
 
-pub asked_app : (m : ℕ) → m ≡ 0 → 0 ≡ Calls.asked m
-asked_app m e = yes (eqb m 0) 0 1 (eq-eqb m 0 e)
-
-pub asked_service : (m : ℕ) → (m ≡ 0 → ⊥) → 1 ≡ Calls.asked m
-asked_service m h = no (eqb m 0) 0 1 (ne_eqb m 0 h)
-
 -- with no room a good setup's start is refused as it is with room, or for the room
 in_order : (b c : Bool) → pick (not b) 12 (pick (not c) 13 14) ≡ Calls.or_no_room (pick (not b) 12 (pick (not c) 13 0))
 in_order true true = refl

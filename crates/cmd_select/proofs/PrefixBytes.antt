@@ -151,9 +151,3 @@ module _ (u f g : List ℕ) (at : g ≡ copied u f) where
   pub no : false ≡ matches (bit_count_of f) u (prefix_of f) → choice_of None g ≡ select_of u f
   unfolding select_of
   no m = rw (← m, at)
-
--- an id has at most 16 bytes
-pub clamped : (l : List ℕ) (n r : ℕ) → length l ≡ 16 → r + (n - 16) ≡ n → take r l ≡ take n l
-clamped l n r h e =
-    ⊎_elim (λ k. let z : r ≡ n = omega arith in rw z) (λ k. take_all r l (omega arith) ∙ sym (take_all n l (omega arith)))
-    (lt_or_ge n 16)

@@ -23,10 +23,6 @@ use Rattle.desk_replies.specs.declared.Heard.{Heard}
 use Rattle.desk_replies.specs.Replies.{head_of, info, verify, select, plain, contents_of, Told, request, reply, good_of, heard_by}
 use Rattle.desk_replies.specs.Replies.{hearing_of, hear_of, hear_part_of, contents_to, told_of, hearing_to}
 
--- data of n bytes: none in a list of fewer than ten bytes, all that there are in one that ends too early
-pub data_none : (f : List ℕ) (n : ℕ) → length f < 10 → [] ≡ take n (drop 10 f)
-data_none f n h = rw (drop_of_length-le f {i = 10} (omega arith)) (sym (take_all n [] (omega arith)))
-
 pub data_short : (f : List ℕ) (n : ℕ) → length f - 10 < n → take (length f - 10) (drop 10 f) ≡ take n (drop 10 f)
 data_short f n h =
     let l : length (drop 10 f) ≡ length f - 10 = length-drop 10 f in

@@ -23,12 +23,6 @@ laid (cells a b c d e f g h i j k l) m (suc zero) r = refl
 laid (cells a b c d e f g h i j k l) m (suc (suc zero)) r = refl
 laid w m (suc (suc (suc n))) r = absurd (omega arith)
 
-pub word_laid : (new m : List ℕ) (k : ℕ) → length new ≡ 12 → k < 3 →
-    set (set (set (set m (4 * k) (get_or new (4 * k) 0)) (4 * k + 1) (get_or new (4 * k + 1) 0)) (4 * k + 2) (get_or new (4 * k + 2) 0)) (4 * k + 3)
-    (get_or new (4 * k + 3) 0)
-    ≡ sets m (4 * k) (take 4 (drop (4 * k) new))
-word_laid new m k n = laid (whole new n) m k
-
 -- of a record of twelve bytes
 pub cut_some : (words : ℕ) (new old : List ℕ) → length old ≡ 12 → cut_after (suc words) new old ≡ over (take (4 * words) new) blank
 cut_some words new old n = simp (eq-eqb (length old) 12 n)

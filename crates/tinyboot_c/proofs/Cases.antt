@@ -120,14 +120,6 @@ module _ (setup state bytes flash meta reply answer : List ℕ) where
               ap (λ (v : List ℕ). Calls.after_feed r s f m v a) (ap (λ (v : List ℕ). p ++ v) none ∙ append-nil p) ∙
               e ∙ ap left (ap (λ (n : ℕ). take n reply) z ∙ take-length reply) ∙ whole_room b
 
--- the room that is lent lies in the room there is
-pub room_within : (room reply answer : ℕ) → room ≡ pick (ltb answer 16) 0 reply → room ≤ reply
-room_within room reply answer e = rw e (go (ltb answer 16))
-  where
-    go : (t : Bool) → pick t 0 reply ≤ reply
-    go true = omega arith
-    go false = omega arith
-
 -- a start: of a setup, or of none
 module _ (mode : ℕ) (setup state flash meta answer : List ℕ) where
   pub start_no_setup : eqb (length setup) 32 ≡ false → start_refused 10 state meta answer ≡ Calls.c_started 52 64 mode setup state flash meta answer

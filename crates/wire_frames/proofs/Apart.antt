@@ -20,9 +20,6 @@ kind_back Overheard = refl
 kind_back CrcMismatch = refl
 kind_back Good = refl
 
-pub kind_apart : (a b : Kind) → kind_status a ≡ kind_status b → a ≡ b
-kind_apart = apart kind_status kind_from kind_back
-
 end_back : (e : Option Kind) → option_map kind_from (end_status e) ≡ e
 end_back None = refl
 end_back (Some k) = ap Some (kind_back k)

@@ -29,15 +29,8 @@ module _ (cap : ℕ) (device : Bool) where
 
   -- steps 1 and 2, case by case
   module _ (cmd status len : ℕ) where
-    pub header_strange : ltb 5 cmd || ltb 7 status ≡ true → header_of cap device cmd status len ≡ Some Kind.Unsupported
-    header_strange e = simp e
-
     pub header-going : ltb 5 cmd || ltb 7 status ≡ false → len ≤ cap → header_of cap device cmd status len ≡ None
     header-going e h = simp (e, le-ltb cap len h)
-
-    pub header_long : ltb 5 cmd || ltb 7 status ≡ false → cap < len → (t : Bool) → overhears device status ≡ t →
-        header_of cap device cmd status len ≡ Some (pick t Kind.Overheard Kind.PayloadOverflow)
-    header_long e h t o = simp (e, lt-ltb cap len h, o)
 
   -- a header by its fields
   pub verdict_fields : (f : List ℕ) (n : ℕ) → n ≡ len_of f → header_of cap device (cmd_of f) (status_of f) n ≡ verdict_of cap device f

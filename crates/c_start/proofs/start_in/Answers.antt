@@ -18,9 +18,6 @@ returns-then-state-ne-STATE_SIZE c =
     (start_no_state a.mode a.setup a.state.now a.flash.now a.meta.now a.answer.now
     (sym c.set_up.ensures ∙ c.if-not-set_up.false) c.if-state-ne-STATE_SIZE.true)
 
-pub unanswered-requires : goal.unanswered-requires
-unanswered-requires c = sym c.set_up.ensures ∙ c.if-not-set_up.false
-
 pub returns-then-answer-lt-ANSWER_SIZE : goal.returns-then-answer-lt-ANSWER_SIZE
 returns-then-answer-lt-ANSWER_SIZE c =
     let a = c.args in

@@ -16,11 +16,6 @@ returns-then-left-lt2 c =
     let a = c.args in
     at_alone a.capture.now a.at c.if-capture-at.false _ c.is_mark.ensures (c.if-not-is_mark.false) c.if-left-lt2.true
 
-pub overflow_cast-len : goal.overflow_cast-len
-overflow_cast-len c =
-    let a = c.args in
-    omega (arith, c.type_inv.capture (a.at + 1))
-
 pub returns-then-len-lt1 : goal.returns-then-len-lt1
 returns-then-len-lt1 c =
     let a = c.args in

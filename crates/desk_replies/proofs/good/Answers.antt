@@ -8,10 +8,6 @@ returns-then-head-eq0 c =
     let a = c.args in
     good_request a.f.now _ c.numbers-head.ensures c.if-head-eq0.true
 
-pub typed-contents-requires : goal.typed-contents-requires
-typed-contents-requires c =
-    ap (λ (h : Head). h.len) c.numbers-head.ensures
-
 pub returns : goal.returns
 returns c =
     let a = c.args in

@@ -16,14 +16,6 @@ returns-then-large c =
     too_large_lem 52 a.request (a.own.now ++ a.rest.now) a.room.now c.if-room-lt-FRAME.false
     (parts_tested 52 a.request.addr a.own.now a.rest.now _ _ c.too_large-large.ensures c.if-large.true)
 
-pub framed-f-requires : goal.framed-f-requires
-framed-f-requires c =
-    let a = c.args in
-    let l : length (a.own.now ++ a.rest.now) ≤ 52 =
-    data_fits 52 _ a.request.addr
-    (parts_tested 52 a.request.addr a.own.now a.rest.now _ _ c.too_large-large.ensures c.if-large.false) in
-    rw (length-append a.own.now a.rest.now) at l
-
 pub returns : goal.returns
 returns c =
     let a = c.args in

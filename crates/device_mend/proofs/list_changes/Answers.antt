@@ -6,9 +6,6 @@ use Rattle.device_mend.proofs.Listing.{turned_same, turned_more, listed}
 use Rattle.device_mend.proofs.list_changes.Goals as goal
 use Rattle.device_mend.proofs.list_changes.Goals.{then-old-k, else-old-k}
 
-pub loop-k-init : goal.loop-k-init
-loop-k-init c = (omega arith, omega arith, refl, omega arith, refl)
-
 pub loop-k-preserved : goal.loop-k-preserved
 loop-k-preserved c =
     let a = c.args in

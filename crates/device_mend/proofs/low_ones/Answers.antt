@@ -11,6 +11,3 @@ returns-then-x-ones-eq32 c = (trials c.args.trials (search rules)).low c.if-x-on
 -- neither the ones nor the starts left are more than eight
 pub run_of-requires : goal.run_of-requires
 run_of-requires c = let t = trials c.args.trials (search rules) in omega (arith, t.some, t.few, c.starts_left-left.ensures)
-
-pub returns : goal.returns
-returns c = c.run_of.ensures ∙ ap (λ (n : ℕ). 2 ^ n - 1) c.starts_left-left.ensures

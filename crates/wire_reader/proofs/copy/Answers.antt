@@ -8,9 +8,6 @@ use native.Mathlib.Omega.{arith}
 use borrow.Author.Rules.{rules}
 use Rattle.wire_reader.proofs.copy.Goals as goal
 
-pub loop-j-init : goal.loop-j-init
-loop-j-init c = (omega arith, paste-zero c.args.f.now c.args.got (drop c.args.at c.args.bytes.now), search rules)
-
 pub loop-j-preserved : goal.loop-j-preserved
 loop-j-preserved c =
     let a = c.args in
@@ -21,9 +18,3 @@ loop-j-preserved c =
     let e : get_or d v.j 0 ≡ get_or a.bytes.now (a.at + v.j) 0 = get_or-drop a.at a.bytes.now v.j 0 in
     let s = paste-suc a.f.now a.got d v.j 0 (omega arith) (omega arith) in
     (omega arith, rw (v.invariant.1, add-one, ← e) s, search rules)
-
-pub returns : goal.returns
-returns c =
-    let v = c.loop-j in
-    let e : v.j ≡ c.args.m = omega arith in
-    rw e at v.invariant.1

@@ -4,19 +4,6 @@ use Rattle.wire_reader.proofs.Loop.{again, over_at, all}
 use native.Mathlib.Omega.{arith}
 use Rattle.wire_reader.proofs.pass.Goals as goal
 
-pub overflow_cast-got : goal.overflow_cast-got
-overflow_cast-got c = let a = c.args in
-    omega (arith, well_small 52 a.device a.f.now a.start c.requires)
-
-pub loop-i-init : goal.loop-i-init
-loop-i-init c = record { within = omega arith; well = c.requires; reads = refl }
-
-pub take_turn-t-requires : goal.take_turn-t-requires
-take_turn-t-requires c = (c.loop-i-test.true, c.loop-i.invariant.well)
-
-pub overflow_add-i : goal.overflow_add-i
-overflow_add-i c = omega (arith, c.take_turn-t.ensures.within)
-
 pub returns-in-Some : goal.returns-in-Some
 returns-in-Some c =
     let a = c.args in
@@ -25,10 +12,6 @@ returns-in-Some c =
     rw c.told.ensures
     (over_at 52 a.device a.bytes.now _ v.f v.got v.i v.invariant t.new.f t.result.got t.result.taken c.in-Some.kind
     (rw c.in-Some.is at t.ensures))
-
-pub loop-i-smaller : goal.loop-i-smaller
-loop-i-smaller c = let t = c.take_turn-t in
-    omega (arith, t.ensures.some, t.ensures.within)
 
 pub loop-i-preserved : goal.loop-i-preserved
 loop-i-preserved c =

@@ -2,20 +2,6 @@ use mathlib.Core.Path.{sym, ◌∙◌}
 use Rattle.wire_frames.proofs.Steps.{wanted_last, wanted_none, wanted_fits, wanted_turn, byte_turn}
 use Rattle.wire_reader.proofs.take_turn.Goals as goal
 
-pub push-s-requires : goal.push-s-requires
-push-s-requires c =
-    let a = c.args in
-    let p = c.requires in
-    let e = sym c.wanted-want.ensures ∙ c.if-want-eq0.true in
-    (wanted_last 52 a.device a.f.now a.got p.1 e, wanted_none 52 a.device a.f.now a.got p.1 e, p.1)
-
-pub returns-then-want-eq0 : goal.returns-then-want-eq0
-returns-then-want-eq0 c =
-    let a = c.args in
-    let p = c.requires in
-    let u = c.push-s in
-    byte_turn 52 a.device a.f.now a.got p.1 a.bytes.now a.at p.0 u.new.f u.result.got u.result.end u.ensures
-
 pub fill-requires : goal.fill-requires
 fill-requires c =
     let a = c.args in

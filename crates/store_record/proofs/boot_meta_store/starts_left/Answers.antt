@@ -14,15 +14,6 @@ none_left = refl
 pub returns-then-left-eq0 : goal.returns-then-left-eq0
 returns-then-left-eq0 c = low_ones_lem _ (search rules) c.if-left-eq0.true
 
-pub loop-left-init : goal.loop-left-init
-loop-left-init c = (search rules, omega arith)
-
-pub overflow_shr-low : goal.overflow_shr-low
-overflow_shr-low c = (lowest _ c.loop-left.invariant.0 c.loop-left-test.true).down
-
-pub overflow_shr-left : goal.overflow_shr-left
-overflow_shr-left c = (lowest _ c.loop-left.invariant.0 c.loop-left-test.true).past
-
 pub loop-left-smaller : goal.loop-left-smaller
 loop-left-smaller c = (lowest _ c.loop-left.invariant.0 c.loop-left-test.true).fewer
 

@@ -7,12 +7,6 @@ use Rattle.store_record.proofs.Cuts.{cut_none, step_erase, one_word, two_words, 
 use borrow.Author.Rules.{rules}
 use Rattle.store_record.proofs.rewrite.rewrite_steps.Goals as goal
 
-pub returns-then-meta-ne-RECORD : goal.returns-then-meta-ne-RECORD
-returns-then-meta-ne-RECORD c = sym (cut_none c.args.steps c.args.new c.args.meta.now c.if-meta-ne-RECORD.true)
-
-pub returns-then-steps-eq0 : goal.returns-then-steps-eq0
-returns-then-steps-eq0 c = rw c.if-steps-eq0.true refl
-
 pub returns-then-steps-lt2 : goal.returns-then-steps-lt2
 returns-then-steps-lt2 c =
     let a = c.args in

@@ -5,12 +5,6 @@ use Rattle.wire_numbers.proofs.Serial.{serial}
 use Rattle.wire_numbers.proofs.Quick.{to_the_end}
 use Rattle.wire_numbers.proofs.crc.crc16.Goals as goal
 
-pub loop-i-preserved : goal.loop-i-preserved
-loop-i-preserved c =
-    let l = c.loop-i in
-    let a = c.args in
-    (omega arith, turned_eight crc_byte a.bytes.now l.i _ l.c _ l.invariant.1 (omega arith) c.eight-c.ensures)
-
 pub returns : goal.returns
 returns c =
     let a = c.args in
