@@ -5,8 +5,28 @@ use Rattle.theorem_captures.specs.Rows.{found_rows, compared_rows, AllFound, All
 
 pub found_rows_lem : AllFound found_rows
 unfolding next_at front_of
-found_rows_lem =
-    ((refl, refl), ((refl, refl), ((refl, refl), ((refl, refl), ((refl, refl), ((refl, refl), ((refl, refl), ((refl, refl), ((refl, refl), ((refl, refl), tt))))))))))
+found_rows_lem = (
+  (refl, refl),
+  (
+    (refl, refl),
+    (
+      (refl, refl),
+      (
+        (refl, refl),
+        (
+          (refl, refl),
+          (
+            (refl, refl),
+            (
+              (refl, refl),
+              ((refl, refl), ((refl, refl), ((refl, refl), tt))),
+            ),
+          ),
+        ),
+      ),
+    ),
+  ),
+)
 
 pub compared-rows : AllCompared compared_rows
 unfolding compare_of compared read_from front_of alike
