@@ -4,7 +4,7 @@ use desk_captures::{TO_MODULE, after, next_at, part_at, record_at, same_bytes};
 use std::io;
 use std::io::Write;
 
-#[derive(Clone, Copy)]
+#[derive(Drop)]
 pub struct Judged {
     // From where in the capture the next one is sought.
     pub at: usize,
@@ -40,27 +40,26 @@ fn sought(capture: &[u8], at: usize) -> usize {
 // The module's next reply, held against the next record. A record is never empty.
 pub(crate) fn hold(
     out: &mut impl Write,
-    judged: Judged,
+    j: &mut Judged,
     capture: &[u8],
     reply: &[u8],
-) -> io::Result<Judged> {
-    let mut j = judged;
+) -> io::Result<()> {
     let at = sought(capture, j.at);
     let record = part_at(capture, at);
     j.at = at;
     if record.is_empty() {
         j.more = j.more.wrapping_add(1);
-        return Ok(j);
+        return Ok(());
     }
     let number = j.same.wrapping_add(1);
     if same_bytes(record, reply) {
         j.at = after(capture, at);
         j.same = number;
-        return Ok(j);
+        return Ok(());
     }
     show::differs(out, number, at, record, reply)?;
     j.differs = true;
-    Ok(j)
+    Ok(())
 }
 
 // Where there are no more replies: a record behind the last of them is none of the module's.

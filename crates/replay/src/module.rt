@@ -2,7 +2,7 @@
 use crate::judged;
 use crate::judged::Judged;
 use desk_captures::{TO_MODULE, after, part_at, record_at};
-use device_feed::feed;
+use device_feed::feed_in;
 use device_replies::Answer;
 use device_state::{PRESENT, Setup, State};
 use std::io;
@@ -13,7 +13,7 @@ use wire_frames::frame::FRAME;
 use wire_numbers::COMPAT_UNSET;
 
 // How far it has come: its state, what became of its replies, how many bytes the last call took, and whether a restart is due.
-#[derive(Clone, Copy)]
+#[derive(Drop)]
 pub struct Module {
     pub state: State,
     pub judged: Judged,
@@ -33,34 +33,29 @@ fn listening() -> Setup {
     }
 }
 
-// One call, as far as the end of a frame. Flash and record are lent beside the module, which goes by value.
+// One call, as far as the end of a frame. The module is lent, so that no record and no call copies it; flash and record are lent beside it.
 fn call(
     out: &mut impl Write,
-    m: Module,
+    m: &mut Module,
     capture: &[u8],
     bytes: &[u8],
     flash: &mut [u8; 16384],
     meta: &mut [u8; 12],
-) -> io::Result<Module> {
+) -> io::Result<()> {
     let mut reply = [0u8; FRAME];
-    let fed = feed(listening(), m.state, bytes, flash, meta, &mut reply);
-    let (judged, restarted) = match fed.answer {
-        Answer::Reply { len, .. } => (
-            judged::hold(out, m.judged, capture, first(&reply, len))?,
-            false,
-        ),
-        Answer::Restart { len, .. } => (
-            judged::hold(out, m.judged, capture, first(&reply, len))?,
-            true,
-        ),
-        _ => (m.judged, false),
-    };
-    Ok(Module {
-        state: fed.state,
-        judged,
-        taken: fed.taken,
-        restarted,
-    })
+    let fed = feed_in(listening(), &mut m.state, bytes, flash, meta, &mut reply);
+    m.taken = fed.taken;
+    match fed.answer {
+        Answer::Reply { len, .. } => {
+            judged::hold(out, &mut m.judged, capture, first(&reply, len))?;
+        }
+        Answer::Restart { len, .. } => {
+            judged::hold(out, &mut m.judged, capture, first(&reply, len))?;
+            m.restarted = true;
+        }
+        _ => {}
+    }
+    Ok(())
 }
 
 // Whether the module is fed on.
@@ -71,23 +66,22 @@ fn goes_on(m: &Module) -> bool {
 // The bytes of a record, frame by frame.
 fn record(
     out: &mut impl Write,
-    module: Module,
+    m: &mut Module,
     capture: &[u8],
     bytes: &[u8],
     flash: &mut [u8; 16384],
     meta: &mut [u8; 12],
-) -> io::Result<Module> {
-    let mut m = module;
+) -> io::Result<()> {
     let mut at: usize = 0;
     // a while: a step is what the call took
     while at < bytes.len() {
-        m = call(out, m, capture, &bytes[at..], flash, meta)?;
-        if !goes_on(&m) || m.taken == 0 || bytes.len() - at < m.taken {
+        call(out, m, capture, &bytes[at..], flash, meta)?;
+        if !goes_on(m) || m.taken == 0 || bytes.len() - at < m.taken {
             break;
         }
         at += m.taken;
     }
-    Ok(m)
+    Ok(())
 }
 
 fn new() -> Module {
@@ -110,7 +104,7 @@ pub(crate) fn all(
     let mut at: usize = 0;
     while let Some(found) = record_at(capture, at) {
         if found.mark == TO_MODULE {
-            m = record(out, m, capture, part_at(capture, at), flash, meta)?;
+            record(out, &mut m, capture, part_at(capture, at), flash, meta)?;
         }
         if !goes_on(&m) {
             break;
