@@ -1,6 +1,6 @@
 // What `d` shows of the bench.
 use crate::module::Bench;
-use crate::show::Tail;
+use crate::show::{Hex, Tail};
 use std::io;
 use std::io::Write;
 use store_flash::cells::first;
@@ -9,7 +9,8 @@ use wire_numbers::crc::{CRC_INIT, crc16};
 
 // The length of what is lent, and its CRC.
 fn summed(out: &mut impl Write, name: &str, s: &[u8]) -> io::Result<()> {
-    writeln!(out, "{name} {} {:04X}", s.len(), crc16(CRC_INIT, s))
+    let crc = crc16(CRC_INIT, s).to_be_bytes();
+    writeln!(out, "{name} {} {}", s.len(), Hex(&crc))
 }
 
 impl Bench {

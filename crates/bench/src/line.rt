@@ -1,4 +1,6 @@
 // One line of the script, character by character. Blanks and comments are passed over and never kept, so they may be of any length.
+ghost use Rattle.std.specs.Prelude.{◌≤◌, length};
+
 use crate::fault::Fault;
 use crate::limits::LINE;
 use crate::order::Order;
@@ -116,7 +118,7 @@ impl Line {
             (Some(d), None) => self.high = Some(d),
             (Some(d), Some(high)) => {
                 self.high = None;
-                if self.bytes.try_push(high << 4 | d).is_err() {
+                if self.bytes.try_push(digits::byte(high, d)).is_err() {
                     self.long = true;
                 }
                 self.len = self.bytes.len();
@@ -155,7 +157,9 @@ impl Line {
     }
 
     // A part of the input, up to the line's end if it is there: how much of it is used up, and whether the line has ended.
-    fn scan(&mut self, part: &[u8]) -> (usize, bool) {
+    fn scan(&mut self, part: &[u8]) -> (usize, bool)
+        ensures { result.0 ≤ length part.now }
+    {
         for (i, c) in part.iter().enumerate() {
             if *c == b'\n' {
                 return (i + 1, true);
