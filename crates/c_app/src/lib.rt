@@ -34,7 +34,7 @@ const SELECTED: usize = GOT + 1;
 
 const CLOSED: usize = GOT + 2;
 
-// Whether these bytes are as many as a setup's: the exported call tells it by an array's type, and theorem_determined still names this function.
+// Whether these bytes are as many as a setup's.
 pub fn holds_app_setup(setup: &[u8]) -> bool
     ensures { result ≡ eqb (length setup.now) app_setup_size }
 {

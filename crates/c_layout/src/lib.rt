@@ -34,7 +34,7 @@ pub const SELECTED: usize = NEXT + 6;
 
 pub const CLOSED: usize = NEXT + 7;
 
-// Whether these bytes are as many as a setup's: the exported calls tell it by an array's type, and theorem_determined still names this function.
+// Whether these bytes are as many as a setup's.
 pub fn holds_setup(setup: &[u8]) -> bool
     ensures { result ≡ eqb (length setup.now) setup_size }
 {

@@ -1,14 +1,36 @@
 // What stands in the bytes of a setup, and numbers of several bytes.
-ghost use Rattle.std.specs.Prelude.{◌≡◌, ◌≤◌, ◌+◌, length};
+ghost use Rattle.std.specs.Prelude.{◌≡◌, ◌≢◌, ◌≤◌, ◌+◌, length, MatchOption};
+ghost use Rattle.std.specs.Array.{IsWholeChunk};
 ghost use Rattle.laws.specs.Low.{low_first};
-ghost use Rattle.c_layout.specs.Layout.{part, setup_from};
-ghost use Rattle.c_app.specs.App.{app_setup_from};
+ghost use Rattle.c_layout.specs.Layout.{part, setup_size, setup_from};
+ghost use Rattle.c_app.specs.App.{app_setup_size, app_setup_from};
 
 use app_state::AppSetup;
-use c_app::APP_SETUP_SIZE;
-use c_layout::SETUP_SIZE;
+use c_app::{APP_SETUP_SIZE, holds_app_setup};
+use c_layout::{SETUP_SIZE, holds_setup};
 use device_state::Setup;
 use wire_numbers::le;
+
+// The bytes of a setup, where they are as many as one has. This and the next are so short that a call is longer, and differ in the size and in whose it is.
+#[inline(always)]
+pub(crate) fn whole(setup: &[u8]) -> Option<&[u8; SETUP_SIZE]>
+    ensures cases { MatchOption result (length setup.now ≢ setup_size) (λ s. IsWholeChunk setup.now s.now setup_size) }
+{
+    if !holds_setup(setup) {
+        return None;
+    }
+    setup.as_array::<SETUP_SIZE>()
+}
+
+#[inline(always)]
+pub(crate) fn whole_app(setup: &[u8]) -> Option<&[u8; APP_SETUP_SIZE]>
+    ensures cases { MatchOption result (length setup.now ≢ app_setup_size) (λ s. IsWholeChunk setup.now s.now app_setup_size) }
+{
+    if !holds_app_setup(setup) {
+        return None;
+    }
+    setup.as_array::<APP_SETUP_SIZE>()
+}
 
 pub(crate) fn two(s: &[u8], at: usize) -> u16
     requires { at + 2 ≤ length s.now }

@@ -16,11 +16,9 @@ ghost use Rattle.c_app.specs.Calls.{after_app, c_app_new, c_set_baud, c_baud, c_
 ghost use Rattle.c_start.specs.Start.{after_new, c_new, after_start};
 ghost use Rattle.tinyboot_c.specs.Calls.{after_feed, c_fed, c_started, c_early, c_app_fed, after_mend, c_mended};
 
-use crate::layout::{app_setup_from, setup_from};
-use c_app::{
-    APP_SETUP_SIZE, app_fed_in, app_new_in, baud_in, confirm_in, position_in, set_baud_in,
-};
-use c_layout::{SETUP_SIZE, STATE_SIZE, holds_state, refuse};
+use crate::layout::{app_setup_from, setup_from, whole, whole_app};
+use c_app::{app_fed_in, app_new_in, baud_in, confirm_in, position_in, set_baud_in};
+use c_layout::{STATE_SIZE, holds_state, refuse};
 use c_start::{early_in, new_in, start_in};
 use device_mend::{mend, mend_number};
 use device_state::refusal::{Refusal, refusal_number};
@@ -69,7 +67,7 @@ pub fn tinyboot_feed(
         c_fed 52 64 setup.now state.old bytes.now flash.old meta.old reply.old
         answer.old }
 {
-    let Some(setup) = setup.as_array::<SETUP_SIZE>() else {
+    let Some(setup) = whole(setup) else {
         return refuse(answer, refusal_number(Refusal::BadSetup));
     };
     let Some(state) = state.as_mut_array::<STATE_SIZE>() else {
@@ -93,7 +91,7 @@ pub fn tinyboot_start(
     ensures { after_start result state.new meta.new answer.new ≡
         c_started 52 64 mode setup.now state.old flash.now meta.old answer.old }
 {
-    let Some(setup) = setup.as_array::<SETUP_SIZE>() else {
+    let Some(setup) = whole(setup) else {
         return refuse(answer, refusal_number(Refusal::BadSetup));
     };
     start_in(mode, setup_from(setup), state, flash, meta, answer)
@@ -103,7 +101,7 @@ pub fn tinyboot_start(
 pub fn tinyboot_early(mode: u8, setup: &[u8], meta: &[u8]) -> u8
     ensures { result ≡ c_early 64 mode setup.now meta.now }
 {
-    let Some(setup) = setup.as_array::<SETUP_SIZE>() else {
+    let Some(setup) = whole(setup) else {
         return refusal_number(Refusal::BadSetup);
     };
     early_in(mode, setup_from(setup), meta)
@@ -121,7 +119,7 @@ pub fn tinyboot_app_feed(
     ensures { after_app result state.new meta.new reply.new answer.new ≡
         c_app_fed 52 64 setup.now state.old bytes.now meta.old reply.old answer.old }
 {
-    let Some(setup) = setup.as_array::<APP_SETUP_SIZE>() else {
+    let Some(setup) = whole_app(setup) else {
         return refuse(answer, refusal_number(Refusal::BadSetup));
     };
     app_fed_in(app_setup_from(setup), state, bytes, meta, reply, answer)
@@ -166,7 +164,7 @@ pub fn tinyboot_position(meta: &[u8]) -> u16
 pub fn tinyboot_mend(setup: &[u8], meta: &mut [u8], list: &mut [u8]) -> u8
     ensures { after_mend result meta.new list.new ≡ c_mended 64 setup.now meta.old list.old }
 {
-    let Some(setup) = setup.as_array::<SETUP_SIZE>() else {
+    let Some(setup) = whole(setup) else {
         return refusal_number(Refusal::BadSetup);
     };
     mend_number(mend(setup_from(setup), meta, list))
