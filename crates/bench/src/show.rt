@@ -1,5 +1,5 @@
-// Bytes as they are printed. `mend` and `replay` print few of them, one at a time, by lines of their own: a crate for all three, with contracts and edits of its
-// own, would be longer than they are.
+// Bytes as they are printed. `mend` and `replay` print few, one at a time, by lines of their own: a crate for all three, with contracts and edits of its own,
+// would be longer than they are.
 use crate::digits::upper;
 use std::{fmt, str};
 use store_flash::cells::first;

@@ -11,7 +11,8 @@ use c_layout::{SETUP_SIZE, holds_setup};
 use device_state::Setup;
 use wire_numbers::le;
 
-// The bytes of a setup, where they are as many as one has. This and the next are so short that a call is longer, and differ in the size and in whose it is.
+// The bytes of a setup, where they are as many as one has; so short that a call is longer. The next is its twin for the app: one function over the size would
+// be handed what the test said, and each caller's proof would carry that fact besides.
 #[inline(always)]
 pub(crate) fn whole(setup: &[u8]) -> Option<&[u8; SETUP_SIZE]>
     ensures cases { MatchOption result (length setup.now ≢ setup_size) (λ s. IsWholeChunk setup.now s.now setup_size) }
